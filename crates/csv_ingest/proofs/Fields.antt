@@ -1,5 +1,5 @@
 -- Fields of a text, walked over one after another.
-use Rattle.std.proofs.Common.{◌≡◌, ◌≢◌, ◌∙◌, ◌≤◌, ◌<◌, ◌+◌, ◌-◌, ℕ, List, [], ◌∷◌, ◌++◌, Bool, true, false, true≢false, Option, Some, None, Result, Ok, Err, length, length-append, get_or, drop, length-drop, slice_range, sym, subst, take, ap, ap₂, refl, arith, add-one, append-nil, drop-drop, inl, inr}
+use Rattle.std.proofs.Common.{◌≡◌, ◌≢◌, ◌∙◌, ◌≤◌, ◌<◌, ◌+◌, ◌-◌, ℕ, zero, suc, List, [], ◌∷◌, ◌++◌, Bool, true, false, true≢false, Option, Some, None, Result, Ok, Err, length, length-append, get_or, drop, length-drop, slice_range, sym, subst, take, ap, ap₂, refl, arith, add-one, append-nil, drop-drop, inl, inr}
 use Rattle.std.proofs.Math.Seq.{drop-cons}
 use Rattle.std.proofs.lemmas.Bool.{cases_Bool, eq-eqb, eqb-true, ne_eqb}
 use Rattle.std.proofs.lemmas.List.{append_assoc, get_or-drop, take-append-drop}
@@ -14,7 +14,7 @@ use Rattle.csv.specs.declared.parser.State.{State}
 use Rattle.csv.specs.declared.parser.State.TheVariants as st
 use Rattle.csv_ingest.specs.KeyFile.{Record, after_keys, dialect, field_or_lack, key_in, keys_from}
 use Rattle.csv_ingest.specs.Pieces.{file_records, piece_keys, bom_length}
-use Rattle.csv_ingest.specs.Private.FieldEnds.{ends_field}
+use Rattle.csv_ingest.specs.Private.FieldEnds.{HasNoEnd, ends_field}
 use Rattle.csv_ingest.specs.Private.Fields.{EndsField, IsLineEnd, IsRow, IsWhole, ReadsField, ReadsKey, ReadsRow, bytes_in, kept, key_of}
 use Rattle.csv_ingest.specs.Private.KeyFile.{IsFaultAt, TakesKey}
 use Rattle.csv_ingest.specs.Private.Walk.{walk}
@@ -173,6 +173,21 @@ bare-step delimiter text at i le lt d n r goes fields field =
     ∙ in-other delimiter (get_or text i 0) fields (field ++ slice_range text at i) (drop (i + 1) text) d n r
     ∙ ap (λ f. walk delimiter st.InField fields f (drop (i + 1) text))
     (append_assoc field (slice_range text at i) (get_or text i 0 ∷ []) ∙ ap (λ m. field ++ m) (sym (one-between text at i le lt)))
+
+-- bytes that end no field are more of the field at hand
+pub bare-run : (delimiter : ℕ) (text : List ℕ) (at n : ℕ) → at + n ≤ length text → HasNoEnd delimiter text at (at + n) → Goes delimiter st.InField st.InField text at (at + n) (slice_range text at (at + n))
+bare-run delimiter text at zero within none = λ fields field.
+    let here : at + zero ≡ at = omega arith in
+    ap (λ to. walk delimiter st.InField fields field (drop to text)) (sym here)
+    ∙ ap (λ f. walk delimiter st.InField fields f (drop (at + zero) text)) (sym (append-nil field) ∙ ap (λ m. field ++ m) (sym (none-between text at (at + zero) (sym here))))
+bare-run delimiter text at (suc n) within none =
+    let next : at + n + 1 ≡ at + suc n = omega arith in
+    let other = no-end delimiter (get_or text (at + n) 0) (none (at + n) (omega arith) (omega arith)) in
+    subst (λ to. Goes delimiter st.InField st.InField text at to (slice_range text at to)) next (
+    bare-step delimiter text at (at + n) (omega arith) (omega (arith, within)) other.0 (λ e. other.1 (inl e)) (λ e. other.1 (inr e)) (
+    bare-run delimiter text at n (omega (arith, within)) (λ i low high. none i low (omega (arith, high)))
+    )
+    )
 
 quoted-run : (delimiter : ℕ) (run : List ℕ) (fields : Record) (field rest : List ℕ) → All (λ c. c ≢ 34) run
     → walk delimiter st.InQuoted fields field (run ++ rest) ≡ walk delimiter st.InQuoted fields (field ++ run) rest

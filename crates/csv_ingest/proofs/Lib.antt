@@ -1,5 +1,6 @@
 pub mod Parts
 pub mod Cutting
+pub mod Ends
 pub mod Faults
 pub mod Fields
 pub mod Headers

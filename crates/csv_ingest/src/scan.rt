@@ -13,7 +13,7 @@ ghost use Rattle.csv_ingest.specs.Sinks.{TakesFound};
 ghost use Rattle.lane_words.specs.declared.Refusal.TheVariants as refusal;
 
 use crate::cuts::mark_length;
-use crate::field_ends::FieldEnds;
+use crate::field_ends::field_end;
 use crate::piece::take_piece;
 use crate::sink::KeySink;
 use crate::stand::is_line_end;
@@ -32,16 +32,12 @@ fn is_at(text: &[u8], at: usize, byte: u8) -> bool
 }
 
 /// Where a field that goes on here without quotes ends.
-fn bare_end(text: &[u8], ends: &FieldEnds, at: usize) -> usize
+#[inline(always)]
+fn bare_end(text: &[u8], delimiter: u8, at: usize) -> usize
     requires { at ≤ length text.now }
-    ensures { EndsField ends.now st.InField text.now at result (slice_range text.now at result) }
+    ensures { EndsField delimiter st.InField text.now at result (slice_range text.now at result) }
 {
-    for i in at..text.len() {
-        if ends.is_end(text[i]) {
-            return i;
-        }
-    }
-    text.len()
+    field_end(text, delimiter, at)
 }
 
 /// Keeps bytes of a field where they are wanted.
@@ -57,16 +53,16 @@ fn keep(bytes: &[u8], wanted: bool, key: &mut Vec<u8>) -> Result<(), Memory>
 /// Reads on to the end of a field that goes on here without quotes.
 fn read_bare(
     text: &[u8],
-    ends: &FieldEnds,
+    delimiter: u8,
     at: usize,
     wanted: bool,
     key: &mut Vec<u8>,
 ) -> Result<usize, Memory>
     requires { at ≤ length text.now }
     ensures { IfOk result
-        (λ end. ReadsField ends.now st.InField text.now at end wanted key.old.items key.new.items) }
+        (λ end. ReadsField delimiter st.InField text.now at end wanted key.old.items key.new.items) }
 {
-    let end = bare_end(text, ends, at);
+    let end = bare_end(text, delimiter, at);
     keep(&text[at..end], wanted, key)?;
     Ok(end)
 }
@@ -75,14 +71,14 @@ fn read_bare(
 /// of the field, and behind a single one it goes on without quotes.
 fn read_quoted(
     text: &[u8],
-    ends: &FieldEnds,
+    delimiter: u8,
     start: usize,
     wanted: bool,
     key: &mut Vec<u8>,
 ) -> Result<usize, Memory>
     requires { start ≤ length text.now }
     ensures { IfOk result
-        (λ end. ReadsField ends.now st.InQuoted text.now start end wanted
+        (λ end. ReadsField delimiter st.InQuoted text.now start end wanted
         key.old.items key.new.items) }
 {
     let mut at = start;
@@ -90,7 +86,7 @@ fn read_quoted(
         let quote = at + more;
         if !is_at(text, quote + 1, b'"') {
             keep(&text[at..quote], wanted, key)?;
-            return read_bare(text, ends, quote + 1, wanted, key);
+            return read_bare(text, delimiter, quote + 1, wanted, key);
         }
         keep(&text[at..quote + 1], wanted, key)?;
         at = quote + 2;
@@ -146,31 +142,31 @@ impl<'t> Row<'t> {
     fn read_in_quotes(
         &mut self,
         text: &'t [u8],
-        ends: &FieldEnds,
+        delimiter: u8,
         at: usize,
         wanted: bool,
     ) -> Result<usize, Memory>
         requires { (at < length text.now) × (get_or text.now at 0 ≡ 34) }
         ensures count { OnOk result (self.new.count ≡ self.old.count) }
         ensures key { IfOk result
-            (λ end. ReadsKey ends.now text.now at end wanted self.old self.new) }
+            (λ end. ReadsKey delimiter text.now at end wanted self.old self.new) }
     {
         if wanted {
             self.place = Place::Buffer;
             self.buffer.clear();
-            return read_quoted(text, ends, at + 1, true, &mut self.buffer);
+            return read_quoted(text, delimiter, at + 1, true, &mut self.buffer);
         }
-        read_quoted(text, ends, at + 1, false, &mut self.buffer)
+        read_quoted(text, delimiter, at + 1, false, &mut self.buffer)
     }
 
     /// Reads the field at hand, which starts here without quotes, and tells where it ends.
     #[inline(always)]
-    fn read_without(&mut self, text: &'t [u8], ends: &FieldEnds, at: usize, wanted: bool) -> usize
+    fn read_without(&mut self, text: &'t [u8], delimiter: u8, at: usize, wanted: bool) -> usize
         requires { (at < length text.now) × (get_or text.now at 0 ≢ 34) }
         ensures count { self.new.count ≡ self.old.count }
-        ensures key { ReadsKey ends.now text.now at result wanted self.old self.new }
+        ensures key { ReadsKey delimiter text.now at result wanted self.old self.new }
     {
-        let end = bare_end(text, ends, at);
+        let end = bare_end(text, delimiter, at);
         if wanted {
             self.place = Place::Text(&text[at..end]);
         }
@@ -182,20 +178,20 @@ impl<'t> Row<'t> {
     fn read_field(
         &mut self,
         text: &'t [u8],
-        ends: &FieldEnds,
+        delimiter: u8,
         at: usize,
         column: usize,
     ) -> Result<usize, Memory>
         requires { at < length text.now }
         ensures count { OnOk result (self.new.count ≡ self.old.count) }
         ensures field { IfOk result
-            (λ end. ReadsRow ends.now text.now at end column self.old self.new) }
+            (λ end. ReadsRow delimiter text.now at end column self.old self.new) }
     {
         let wanted = self.count == column;
         if text[at] == b'"' {
-            self.read_in_quotes(text, ends, at, wanted)
+            self.read_in_quotes(text, delimiter, at, wanted)
         } else {
-            Ok(self.read_without(text, ends, at, wanted))
+            Ok(self.read_without(text, delimiter, at, wanted))
         }
     }
 
@@ -260,7 +256,6 @@ fn scan<K: KeySink>(
         keys.old keys.new result }
     ensures kind { IfErr result IsFileFault }
 {
-    let ends = FieldEnds::of(delimiter);
     let mut row = Row::new(alloc);
     let mut at = 0;
     let mut taken = 0;
@@ -268,7 +263,7 @@ fn scan<K: KeySink>(
         if row.count == 0 && is_line_end(text[at]) {
             at += 1;
         } else {
-            let end = row.read_field(text, &ends, at, column)?;
+            let end = row.read_field(text, delimiter, at, column)?;
             if is_at(text, end, delimiter) {
                 row.go_on();
             } else {

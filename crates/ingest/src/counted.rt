@@ -333,7 +333,7 @@ pub fn count_file<R: Threads + Sync, S: Source>(
     ensures unstopped { IfErr result IsNoStop }
     ensures reads { S.failures source.new ≡ S.failures source.old + failed_reads result }
 {
-    let mut windows = Windows::new(alloc, window.max(1))?;
+    let mut windows = Windows::new(alloc, window.max(1));
     match find_columns(alloc, source, &mut windows, options) {
         Ok(columns) => count_columns(rt, alloc, source, counting, &mut windows, columns, options),
         Err(fault) => Err(fault),

@@ -22,15 +22,15 @@ pub struct Windows {
 
 impl Windows {
     /// No bytes yet, and windows of this size.
-    pub fn new(alloc: Global, size: usize) -> Result<Windows, Memory>
-        ensures window { IfOk result (λ windows. windows.window ≡ []) }
-        ensures end { IfOk result (λ windows. windows.at_end ≡ false) }
+    pub fn new(alloc: Global, size: usize) -> Windows
+        ensures window { result.window ≡ [] }
+        ensures end { result.at_end ≡ false }
     {
-        Ok(Windows {
-            window: Window::new(alloc, size)?,
-            spare: Window::new(alloc, size)?,
+        Windows {
+            window: Window::new(alloc, size),
+            spare: Window::new(alloc, size),
             at_end: false,
-        })
+        }
     }
 
     /// Reads on until the window is full or the source is at its end.

@@ -1,12 +1,12 @@
 -- Tables and numbers collected shard by shard.
-use Rattle.std.proofs.Common.{◌≡◌, ◌∙◌, ◌+◌, ◌-◌, ◌*◌, ◌<◌, Global, Vec, Ok, ℕ, suc, List, [], ◌∷◌, ◌++◌, length, map, get_or, sym, ap, flat_map, refl, subst, vec_items, arith, inl, inr, length-append}
+use Rattle.std.proofs.Common.{◌≡◌, ◌∙◌, ◌+◌, ◌-◌, ◌*◌, ◌<◌, Global, Vec, Ok, Err, ℕ, suc, List, [], ◌∷◌, ◌++◌, length, map, get_or, sym, ap, flat_map, refl, subst, vec_items, arith, inl, inr, length-append}
 use Rattle.std.specs.Prelude.{IfOk, Result}
 use Rattle.std.proofs.lemmas.Bool.{cases_lt}
 use Rattle.std.proofs.lemmas.List.{get_or-map, get_or_append_left, get_or-append_right, length-map}
 use Rattle.std.proofs.Math.Seq.{get_or-append_seam}
 use Rattle.parallel.specs.Results.{AreResults}
 use Rattle.key_index.specs.Keys.{Key, distinct, id_of}
-use Rattle.key_index.specs.Private.Sharded.{AreLocalIds, AreInternedFrom, AreTables, IsInternedGroup, IsInternedShard, of_shard}
+use Rattle.key_index.specs.Private.Sharded.{AreLocalIds, AreInternedFrom, AreInternedInGroup, AreTables, IsInternedGroup, IsInternedShard, of_shard}
 use Rattle.key_index.specs.declared.interning.InternedShard.{InternedShard}
 use Rattle.key_index.specs.declared.shards.TheConstants.{SHARDS_PER_GROUP, SHARDS}
 
@@ -56,17 +56,21 @@ numbered-joined {E} shard keys from m n front back long a b = λ k d lt.
           subst (IsShard (from + k)) (sym (get_or-append_right front back m k d long high)) (subst (λ s. IsShard s (get_or back (k - m) d)) at (b (k - m) d (omega (arith, high, lt))))
     ]
 
-pub numbered-more : {E : Type 0} (shard : Key → ℕ) (keys : List Key) (from n : ℕ) (found : List (Result InternedShard E)) (one : Result InternedShard E) → length found ≡ n → AreInternedFrom shard keys from n found
-    → IfOk one (IsInternedShard shard keys (from + n)) → AreInternedFrom shard keys from (n + 1) (found ++ one ∷ [])
-numbered-more {E} shard keys from n found one long before own = λ k d lt.
-    let IsShard : ℕ → Result InternedShard E → Type 0 = λ s r. IfOk r (IsInternedShard shard keys s) in
+-- one more result
+pub results-more : {X E : Type 0} (P : ℕ → X → Type 0) (n : ℕ) (found : List (Result X E)) (one : Result X E) → length found ≡ n → AreResults P n found → IfOk one (P n) → AreResults P (n + 1) (found ++ one ∷ [])
+results-more {X} {E} P n found one long before own = λ k d lt.
+    let Is : ℕ → Result X E → Type 0 = λ i r. IfOk r (P i) in
     elim (cases_lt k n) [
-      | inl low ↦ subst (IsShard (from + k)) (sym (get_or_append_left found (one ∷ []) d k (omega (arith, low, long)))) (before k d low)
+      | inl low ↦ subst (Is k) (sym (get_or_append_left found (one ∷ []) d k (omega (arith, low, long)))) (before k d low)
       | inr high ↦
           let last : length found ≡ k = omega (arith, high, lt, long) in
           let read : one ≡ get_or (found ++ one ∷ []) k d = sym (get_or-append_seam found one [] d) ∙ ap (λ i. get_or (found ++ one ∷ []) i d) last in
-          subst (IsShard (from + k)) read (subst (λ i. IsShard (from + i) one) (sym long ∙ last) own)
+          subst (Is k) read (subst (λ i. Is i one) (sym long ∙ last) own)
     ]
+
+pub numbered-more : {E : Type 0} (shard : Key → ℕ) (keys : List Key) (from n : ℕ) (found : List (Result InternedShard E)) (one : Result InternedShard E) → length found ≡ n → AreInternedFrom shard keys from n found
+    → IfOk one (IsInternedShard shard keys (from + n)) → AreInternedFrom shard keys from (n + 1) (found ++ one ∷ [])
+numbered-more shard keys from = results-more (λ k. IsInternedShard shard keys (from + k))
 
 pub groups-numbered : {E : Type 0} (shard : Key → ℕ) (keys : List Key) (from : ℕ) (groups : List (Vec (Result InternedShard E) Global))
     → ((g : ℕ) (d : Vec (Result InternedShard E) Global) → g < length groups → (length (get_or groups g d).items ≡ SHARDS_PER_GROUP) × AreInternedFrom shard keys (from + g * SHARDS_PER_GROUP) SHARDS_PER_GROUP (get_or groups g d).items)
@@ -94,3 +98,9 @@ all-groups {E} {F} shard keys found groups is long h =
     let at : g * SHARDS_PER_GROUP ≡ 0 + g * SHARDS_PER_GROUP = omega arith in (own.0, subst (λ s. AreInternedFrom shard keys s SHARDS_PER_GROUP (get_or groups g d).items) at own.1)) in
     let many : length groups * SHARDS_PER_GROUP ≡ SHARDS = omega (arith, eight) in
     (whole.0 ∙ many, subst (λ n. AreInternedFrom shard keys 0 n (flat_map vec_items groups)) many whole.1)
+
+-- the shards of one group
+pub group-interned : {E F : Type 0} (shard : Key → ℕ) (keys : List Key) (g : ℕ) (r : Result (Vec (Result InternedShard E) Global) F) → IfOk r (λ found. length found.items ≡ SHARDS_PER_GROUP) → IfOk r (λ found. AreInternedInGroup shard keys g found.items)
+    → IfOk r (IsInternedGroup shard keys g)
+group-interned shard keys g (Ok found) long are = (long, are)
+group-interned shard keys g (Err e) long are = tt

@@ -1,5 +1,5 @@
 -- The words of an array of 22 bytes.
-use Rattle.std.proofs.Common.{◌≡◌, ◌∙◌, ◌++◌, ◌≤◌, ◌-◌, ℕ, List, ap, ap₂, arith, drop, length, length-drop, sym, take, take_all}
+use Rattle.std.proofs.Common.{◌≡◌, ◌∙◌, ◌++◌, ℕ, List, ap, ap₂, arith, drop, length, length-drop, sym, take, take_all}
 use Rattle.std.proofs.lemmas.List.{drop-take, take-append-drop, drop-drop}
 use Rattle.std.proofs.Math.Seq.{take-add}
 use Rattle.std.specs.Prelude.{slice_range}

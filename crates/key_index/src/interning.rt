@@ -8,10 +8,10 @@ ghost use Rattle.key_index.specs.Private.Sharded.{AreAssignable, AreScattered, A
 use crate::key_hash::KeyHash;
 use crate::key_map::KeyMap;
 use crate::scattered_key::ScatteredKey;
-use crate::scattering::{SLICES, Scattered, all_shards, scatter_lists};
+use crate::scattering::{SLICES, Scattered, all_shards, records_of, scatter_lists};
 use crate::shards::{GROUPS, KeyLocation, SHARDS, SHARDS_PER_GROUP};
 use lane_words::{MOST_RECORDS, Memory};
-use parallel::collected;
+use parallel::{LEAST_KEYS, collected};
 use std::alloc::Global;
 use std::thread;
 use std::thread::Threads;
@@ -151,7 +151,28 @@ fn intern_group(
     Ok(found)
 }
 
-/// Interns each group of shards in a thread of its own.
+/// Interns each group of shards, one after another.
+fn intern_in_turn(
+    alloc: Global,
+    hasher: KeyHash,
+    lists: &[&[&[u8]]],
+    scattered: &[Scattered<'_>],
+    capacity: usize,
+) -> Result<Vec<Result<Vec<Result<InternedShard, Memory>>, Memory>>, Memory>
+    requires bound { length (lent_lists lists.now) ≤ MOST_RECORDS }
+    requires scattered { AreScattered (shard_of hasher) lists.now scattered.now }
+    ensures len { IfOk result (λ groups. vec_len groups ≡ GROUPS) }
+    ensures found { IfOk result (λ groups. AreResults
+        (IsInternedGroup (shard_of hasher) (lent_lists lists.now)) GROUPS groups.items) }
+{
+    let mut groups = Vec::with_capacity(alloc, GROUPS)?;
+    for g in 0..GROUPS {
+        groups.push(intern_group(alloc, hasher, lists, scattered, g, capacity))?;
+    }
+    Ok(groups)
+}
+
+/// Interns each group of shards, those of many records in a thread of its own.
 fn intern_groups<R: Threads + Sync>(
     rt: &R,
     alloc: Global,
@@ -166,6 +187,9 @@ fn intern_groups<R: Threads + Sync>(
     ensures found { IfOk result (λ groups. AreResults
         (IsInternedGroup (shard_of hasher) (lent_lists lists.now)) GROUPS groups.items) }
 {
+    if records_of(scattered) < LEAST_KEYS {
+        return intern_in_turn(alloc, hasher, lists, scattered, capacity);
+    }
     let groups = thread::map_indices(
         rt,
         alloc,
@@ -427,7 +451,7 @@ fn read_slices<R: Threads + Sync>(
     thread::for_each_chunk_mut(
         rt,
         numbers,
-        records.shards.len() / SLICES + 1,
+        (records.shards.len() / SLICES + 1).max(LEAST_KEYS),
         &|from: usize, slice: &mut [u32]|
             requires { (from + length slice.now ≤ length (keys_in records.now))
                 × HaveReadableIds records.now (map vec_items ids.now) }

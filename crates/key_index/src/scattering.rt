@@ -8,7 +8,7 @@ use crate::key_hash::KeyHash;
 use crate::scattered_key::ScatteredKey;
 use crate::shards::{SHARDS, shard_of};
 use lane_words::{MOST_RECORDS, Memory};
-use parallel::collected;
+use parallel::{LEAST_KEYS, collected};
 use std::alloc::Global;
 use std::thread;
 use std::thread::Threads;
@@ -102,8 +102,9 @@ pub fn all_shards(
     Ok(shards)
 }
 
-/// The number of scattered keys. It only decides how much memory is reserved.
-fn records_of(scattered: &[Scattered<'_>]) -> usize {
+/// The number of scattered keys. It only decides how much memory is reserved, and whether threads
+/// are started.
+pub fn records_of(scattered: &[Scattered<'_>]) -> usize {
     let mut records: usize = 0;
     for i in 0..scattered.len() {
         records = records.saturating_add(scattered[i].shards.len());
@@ -120,11 +121,15 @@ fn start_of(keys: &[&[u8]], p: usize) -> usize
     (p * (keys.len() / SLICES + 1)).min(keys.len())
 }
 
-/// Splits keys into slices that can be interned in parallel. Fails only if memory runs out.
+/// Splits keys into slices that can be interned in parallel; few keys are one slice. Fails only if
+/// memory runs out.
 pub fn split_keys<'a>(alloc: Global, keys: &'a [&'a [u8]]) -> Result<Vec<&'a [&'a [u8]]>, Memory>
     requires { length keys.now ≤ MOST_RECORDS }
     ensures { IfOk result (λ slices. lent_lists slices.items ≡ lent keys.now) }
 {
+    if keys.len() < LEAST_KEYS {
+        return Ok(Vec::from_slice(alloc, &[keys])?);
+    }
     let mut slices = Vec::with_capacity(alloc, SLICES)?;
     for p in 0..SLICES {
         let from = start_of(keys, p);

@@ -10,6 +10,12 @@ use lane_words::{Memory, Refusal};
 use std::alloc::Global;
 use std::marker::Model;
 
+/// How many bytes a buffer has at first: fresh pages take longer than a short file.
+const FIRST_SIZE: usize = 1 << 16;
+
+/// How much a buffer grows from read to read, up to its size.
+const GROWTH: usize = 16;
+
 /// The bytes of a file that were read and not yet taken.
 #[derive(Debug, Drop)]
 pub struct Window {
@@ -17,6 +23,8 @@ pub struct Window {
     buffer: Vec<u8>,
     /// How many bytes of the buffer are filled.
     filled: usize,
+    /// How long the buffer becomes, unless a record needs more.
+    size: usize,
 }
 
 impl Model for Window {
@@ -60,14 +68,15 @@ fn fill_behind<S: Source>(
 }
 
 impl Window {
-    /// No bytes yet, and a buffer of this size.
-    pub fn new(alloc: Global, size: usize) -> Result<Window, Memory>
-        ensures { IfOk result (λ window. window ≡ []) }
+    /// No bytes yet, and a buffer that grows to this size.
+    pub fn new(alloc: Global, size: usize) -> Window
+        ensures { result ≡ [] }
     {
-        Ok(Window {
-            buffer: vec![in alloc; 0u8; size]?,
+        Window {
+            buffer: Vec::new(alloc),
             filled: 0,
-        })
+            size,
+        }
     }
 
     /// The bytes.
@@ -100,6 +109,18 @@ impl Window {
         Ok(())
     }
 
+    /// Makes the buffer as long as the next read has it.
+    fn reserve(&mut self) -> Result<(), Memory>
+        ensures { self.new ≡ self.old }
+    {
+        let len = self.buffer.len();
+        let next = len.saturating_mul(GROWTH).max(FIRST_SIZE).min(self.size);
+        if len < next {
+            self.buffer.resize(next, 0)?;
+        }
+        Ok(())
+    }
+
     /// Reads on until the buffer is full or the source is at its end, and returns whether it is at
     /// its end.
     pub fn read_on<S: Source>(&mut self, source: &mut S) -> Result<bool, Refusal>
@@ -111,6 +132,7 @@ impl Window {
         ensures failures { IfErr result
             (IsReadFault (S.failures source.old) (S.failures source.new)) }
     {
+        self.reserve()?;
         self.filled += fill_behind(source, self.buffer.as_mut_slice(), self.filled)?;
         Ok(self.filled < self.buffer.len())
     }

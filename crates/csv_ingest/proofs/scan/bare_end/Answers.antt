@@ -1,18 +1,20 @@
-use Rattle.std.proofs.Common.{rules, ◌∙◌, arith, get_or, sym, inl, inr}
-use Rattle.csv_ingest.proofs.Fields.{bare-step, end-here, no-end}
+use Rattle.std.proofs.Common.{◌+◌, ◌-◌, ◌≡◌, arith, get_or, subst, slice_range}
+use Rattle.csv.specs.declared.parser.State.TheVariants as st
+use Rattle.csv_ingest.specs.Private.FieldEnds.{HasNoEnd}
+use Rattle.csv_ingest.proofs.Fields.{Goes, bare-run, end-here}
 use Rattle.csv_ingest.proofs.scan.bare_end.Goals as goal
 
-pub returns-then-is_end : goal.returns-then-is_end
-returns-then-is_end c = record {
-  order = search rules;
-  within = omega (arith, c.loop-i-test.true);
-  ended = λ lt. end-here c.args.ends.now (get_or c.args.text.now c.loop-i.i 0) (sym c.is_end.ensures ∙ c.if-is_end.true);
-  walked = c.loop-i.invariant.goes;
-}
-
-pub loop-i-preserved : goal.loop-i-preserved
-loop-i-preserved c =
-    let other = no-end c.args.ends.now (get_or c.args.text.now c.loop-i.i 0) (sym c.is_end.ensures ∙ c.if-is_end.false) in
+pub returns : goal.returns
+returns c =
+    let end = c.field_end.ensures in
+    let d = c.args.delimiter in
+    let text = c.args.text.now in
+    let at = c.args.at in
+    let to = c.field_end.result in
+    let there : at + (to - at) ≡ to = omega (arith, end.order) in
     record {
-      goes = bare-step c.args.ends.now c.args.text.now c.args.at c.loop-i.i (search rules) c.loop-i-test.true other.0 (λ e. other.1 (inl e)) (λ e. other.1 (inr e)) c.loop-i.invariant.goes;
+      order = end.order;
+      within = end.within;
+      ended = λ lt. end-here d (get_or text to 0) (end.ended lt);
+      walked = subst (λ i. HasNoEnd d text at i → Goes d st.InField st.InField text at i (slice_range text at i)) there (bare-run d text at (to - at) (omega (arith, end.order, end.within))) end.none;
     }

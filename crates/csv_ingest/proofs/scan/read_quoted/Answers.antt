@@ -13,10 +13,10 @@ returns-then-not-is_at c =
     let plain = none-before text xs at n (slice-end text at) (omega (arith, found.0.high)) found.0.before in
     let lt = inside-text text xs at n (slice-end text at) found.0.high in
     let first = quote-there text xs at n (slice-end text at) found.1 in
-    let goes = quoted-end c.args.ends.now text at n lt plain first (c.is_at.ensures.if_false (search rules)) in
+    let goes = quoted-end c.args.delimiter text at n lt plain first (c.is_at.ensures.if_false (search rules)) in
     ok-then c.read_bare.result _ _
     (λ end reads.
-    quotes-closed c.args.ends.now text c.args.start at (at + n + 1) end c.args.wanted c.args.key.now.items c.quotes.key.items c.keep.new.key.items c.read_bare.new.key.items (slice_range text at (at + n))
+    quotes-closed c.args.delimiter text c.args.start at (at + n + 1) end c.args.wanted c.args.key.now.items c.quotes.key.items c.keep.new.key.items c.read_bare.new.key.items (slice_range text at (at + n))
     c.quotes.invariant.low (omega arith) c.quotes.invariant.reads goes c.in_ok-keep.ensures reads)
     c.read_bare.ensures
 
@@ -33,8 +33,8 @@ quotes-preserved c =
     record {
       low = omega (arith, c.quotes.invariant.low);
       within = omega (arith, second.0);
-      reads = quotes-on c.args.ends.now text c.args.start at (at + n + 2) c.args.wanted c.args.key.now.items c.quotes.key.items c.keep-in-Some.new.key.items (slice_range text at (at + n + 1))
-          c.quotes.invariant.reads (quoted-on c.args.ends.now text at n second.0 plain first second.1) c.in_ok-keep-2.ensures;
+      reads = quotes-on c.args.delimiter text c.args.start at (at + n + 2) c.args.wanted c.args.key.now.items c.quotes.key.items c.keep-in-Some.new.key.items (slice_range text at (at + n + 1))
+          c.quotes.invariant.reads (quoted-on c.args.delimiter text at n second.0 plain first second.1) c.in_ok-keep-2.ensures;
     }
 
 pub returns : goal.returns
@@ -42,5 +42,5 @@ returns c =
     let text = c.args.text.now in
     let at = c.quotes.at in
     let plain = none-left text (slice_range text at (length text)) at (slice-end text at) c.in_default.ensures in
-    quotes-open c.args.ends.now text c.args.start at c.args.wanted c.args.key.now.items c.quotes.key.items c.keep-2.new.key.items c.quotes.invariant.low c.quotes.invariant.within c.quotes.invariant.reads plain
+    quotes-open c.args.delimiter text c.args.start at c.args.wanted c.args.key.now.items c.quotes.key.items c.keep-2.new.key.items c.quotes.invariant.low c.quotes.invariant.within c.quotes.invariant.reads plain
     c.in_ok-keep-3.ensures

@@ -6,7 +6,7 @@ abbrev pub invariant-quotes : goal.invariant-quotes
 invariant-quotes l = record {
   low : l.start ≤ l.at;
   within : l.at ≤ length l.text;
-  reads : InQuotes l.ends l.text l.start l.at l.wanted l.fn.key.items l.key.items;
+  reads : InQuotes l.delimiter l.text l.start l.at l.wanted l.fn.key.items l.key.items;
 }
 
 abbrev pub decreases-quotes : goal.decreases-quotes

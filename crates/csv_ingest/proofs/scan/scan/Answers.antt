@@ -44,14 +44,14 @@ returns-in_err-give_to-clause-keys g c =
     let far = c.loop-at.invariant.reads in
     let fault =
     reads-fault c.args.delimiter c.args.text.now c.args.column c.args.width far.0 (c.loop-at.taken + 1) c.loop-at.row c.read_field.new.self c.loop-at.at c.in_ok-end.end c.in_err-give_to.field-0.0
-    far.3 starts (rw c.of-ends.ensures at c.in_ok-end.ensures.field) (c.is_at.ensures.if_false c.if-is_at.false) c.in_err-give_to.ensures.fault in
+    far.3 starts c.in_ok-end.ensures.field (c.is_at.ensures.if_false c.if-is_at.false) c.in_err-give_to.ensures.fault in
     search rules
 
 pub loop-at-preserved : goal.loop-at-preserved
 loop-at-preserved g c =
     let inv = c.loop-at.invariant in
     let so = inv.reads in
-    let field = rw c.of-ends.ensures at c.in_ok-end.ensures.field in
+    let field = c.in_ok-end.ensures.field in
     let starts : Starts c.args.text.now c.loop-at.at c.loop-at.row =
     elim c.else-row-eq0.branch [
       | else-row-eq0-via-then-row-eq0+else-is_line_end w ↦ (c.loop-at-test.true, λ none ends. no-line-end (get_or c.args.text.now c.loop-at.at 0) (sym w.is_line_end.ensures ∙ w.if-is_line_end.false) ends)

@@ -1,0 +1,13 @@
+use Rattle.std.proofs.Common.{◌≤◌, ◌-◌, length}
+use Rattle.csv_ingest.specs.Private.FieldEnds.{HasNoEnd}
+use Rattle.csv_ingest.proofs.field_ends.field_end.Given as goal
+
+abbrev pub invariant-loop-at : goal.invariant-loop-at
+invariant-loop-at l = record {
+  order : l.fn.start ≤ l.at;
+  within : l.at ≤ length l.text;
+  none : HasNoEnd l.delimiter l.text l.fn.start l.at;
+}
+
+abbrev pub decreases-loop-at : goal.decreases-loop-at
+decreases-loop-at l = length l.text - l.at
