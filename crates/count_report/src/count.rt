@@ -136,14 +136,7 @@ fn file_report<R: Threads + Sync + RandomSource, S: Source>(
     };
     let workers = workers_for(rt);
     let mut counting = Counting::new(alloc, hasher, workers, LEAST_BYTES, false)?;
-    match count_file(
-        rt,
-        alloc,
-        file,
-        options,
-        window_for(workers),
-        &mut counting,
-    ) {
+    match count_file(rt, alloc, file, options, window_for(workers), &mut counting) {
         Ok(None) => Ok(counted_report(rt, alloc, hasher, counting, options)?),
         Ok(Some(refusal)) => Err(refusal),
         Err(fault) => Err(fault),

@@ -41,9 +41,11 @@ accepted-from counts before l [] v h same topics none = tt
 accepted-from counts before l (keyed ∷ records) v h same topics none =
     let topic = All-head (IsOfTopic l) keyed records topics in
     let fine : record_fault counts before keyed ≡ None = no-fault-now counts before keyed records none in
-    let ok : IsOk (append_answer l keyed) = okay (append_answer l keyed) (record_fault-is counts l before keyed v h same topic ∙ fine) in
-    (ok, accepted-from counts (before ++ keyed ∷ []) (with_record l keyed) records (valid_with l keyed v topic ok) (history l keyed before v h topic) same (All-tail (IsOfTopic l) keyed records topics)
-        (sym (first_fault-later counts before keyed records fine) ∙ none))
+    let ok : IsOk (append_answer l keyed) = okay (append_answer l keyed) (record_fault-is counts l before keyed v h same topic ∙ fine) in (
+      ok,
+      accepted-from counts (before ++ keyed ∷ []) (with_record l keyed) records (valid_with l keyed v topic ok) (history l keyed before v h topic) same (All-tail (IsOfTopic l) keyed records topics)
+          (sym (first_fault-later counts before keyed records fine) ∙ none),
+    )
 
 pub accepted-empty : (counts : List ℕ) (records : List Keyed) → AreCounts counts → AreOfTopics counts records → first_fault counts [] records ≡ None
     → AreAccepted (empty_logs counts) (placed (empty_logs counts) records)

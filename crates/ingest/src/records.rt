@@ -147,14 +147,7 @@ pub fn file_records<R: Threads + Sync + RandomSource, S: Source>(
     };
     let workers = workers_for(rt);
     let mut counting = Counting::new(alloc, hasher, workers, LEAST_BYTES, true)?;
-    match count_file(
-        rt,
-        alloc,
-        file,
-        options,
-        window_for(workers),
-        &mut counting,
-    ) {
+    match count_file(rt, alloc, file, options, window_for(workers), &mut counting) {
         Ok(refusal) => Ok(FileRecords::of(alloc, counting, options, refusal)?),
         Err(fault) => Err(fault),
     }

@@ -39,8 +39,12 @@ impl Model for KeyCounts {
 
     ghost Value = { Entries };
 
-    ghost view = { λ s. record { keys = s.keys.items; counts = s.counts.items; coded = s.coded;
-        codes = s.codes.items } };
+    ghost view = { λ s. record {
+      keys = s.keys.items;
+      counts = s.counts.items;
+      coded = s.coded;
+      codes = s.codes.items;
+    } };
 
     ghost invariant = { λ s. (length s.counts.items ≡ length s.keys.items)
         × All (λ code. code < length s.keys.items) s.codes.items

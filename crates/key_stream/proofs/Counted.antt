@@ -7,7 +7,6 @@ use Rattle.key_counts.specs.Recorded.{all_records, as_records}
 use Rattle.key_stream.specs.Rounds.{entries_in}
 use Rattle.key_stream.specs.declared.worker.Worker.{Worker}
 
-
 pub entries-more : (workers : List Worker) (lens next : List ℕ) (w n : ℕ) (d : Worker) → w < length workers → n ≡ length (get_or workers w d).counter.entries.keys
     → next ≡ lens ++ n ∷ [] → lens ≡ lens_of (entries_in (take w workers)) → next ≡ lens_of (entries_in (take (w + 1) workers))
 entries-more workers lens next w n d lt is grown so =
