@@ -84,6 +84,19 @@ def each_faults(keys: Keys, partitions: int, options: str = "") -> Iterator[str]
     yield from faults(f"run f p {options}", {"f": file, "p": b"join A\n"}, wanted)
 
 
+def topics_faults(keys: Keys, topics: dict[bytes, int]) -> Iterator[str]:
+    """A replay of records of these keys, in each of these topics by turns."""
+    names = list(topics)
+    records = [(names[nth % len(names)], key) for nth, key in enumerate(keys)]
+    ends = Counter((name, place(key, topics[name])) for name, key in records)
+    each = [(name, p) for name, count in topics.items() for p in range(count)]
+    wanted = (b"".join(b"move,1,%s,%d,,A\n" % one for one in each) + b"".join(b"owner,%s,%d,A\n" % one for one in each)
+              + b"".join(b"offset,%s,%d,%d,%d\n" % (*one, ends[one], ends[one]) for one in each) + counts(keys))
+    file = b"".join(b"%s,%s\n" % (name, field(key)) for name, key in records)
+    words = ",".join(f"{name.decode()}:{count}" for name, count in topics.items())
+    yield from faults(f"replay f s --column 2 --topic-column 1 --topics {words}", {"f": file, "s": b"join A\ndrain\n"}, wanted)
+
+
 def size_faults(power: int) -> Iterator[str]:
     """Files, and then outputs, of two to this power of bytes, one less and one more."""
     for size in range((1 << power) - 1, (1 << power) + 2):
@@ -130,6 +143,7 @@ def file_sizes() -> Cases:
     yield "count, replay and run of some MiB of quoted fields", each_faults(keys, 4)
     keys = [b"%d" % (n * n % 250_007) for n in range(400_000)]
     yield "count, replay and run of 400,000 records of many keys", each_faults(keys, 64, "--batch 1000")
+    yield "a replay of 400,000 records in three topics", topics_faults(keys, {b"a": 5, b"bb": 64, b"c": 1})
     # Enough different keys that their tables are dropped in parallel.
     keys = [b"%d" % (n * 7919 % 300_007) for n in range(400_000)]
     yield "a count of 400,000 records of 300,007 keys", faults("count f", {"f": lines(keys)}, counts(keys))
