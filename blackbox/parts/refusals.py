@@ -4,8 +4,8 @@ files, scripts and plans: that call alone fails, or every later one of its kind 
 must change nothing; in short runs each of these calls fails in turn too.
 
 The run must end with the fault of its kind and without output (after a failed write: with a prefix of it). After a failed
-allocation it may also end as usual: the C library can do without some memory. A long file can be read without threads and,
-except by `count`, without random bytes."""
+allocation it may also end as usual: the C library can do without some memory. A file can be read, and its keys numbered,
+without threads."""
 import os
 import subprocess
 import tempfile
@@ -44,6 +44,9 @@ class Subject(NamedTuple):
     without: frozenset[str] = frozenset({"thread"})
     # The kinds that it can do without.
     spared: frozenset[str] = frozenset({"malloc"})
+    # How many of its first threads it can do without: one reads on in a file that fills the first window, one helps to number
+    # the keys.
+    helpers: int = 0
 
 
 def lines_of(keys: list[bytes]) -> bytes:
@@ -62,7 +65,8 @@ def done(stdout: bytes) -> Outcome:
 SUBJECTS = [
     Subject("a count", "count f", {"f": FIVE}, done(FIVE_COUNTS)),
     Subject("a count of quoted fields", "count f --header --column 2", {"f": QUOTED}, done(QUOTED_COUNTS)),
-    Subject("a count of long keys", "count f --partitions 4096", {"f": lines_of(LONG_KEYS)}, done(counts_of(LONG_KEYS))),
+    Subject("a count of long keys", "count f --partitions 4096", {"f": lines_of(LONG_KEYS)}, done(counts_of(LONG_KEYS)),
+            frozenset(), helpers=1),
     Subject("a count of many keys", "count f", {"f": lines_of(MANY_KEYS)}, done(counts_of(MANY_KEYS))),
     Subject("a count of blocks", "count f", {"f": b"".join(key + b",more\n" for key in KEYS_IN_BLOCKS)},
             done(counts_of(KEYS_IN_BLOCKS)), frozenset(), frozenset({"malloc", "thread"})),
@@ -70,27 +74,32 @@ SUBJECTS = [
             Outcome(b"", b"fault 24 at record 8\n", 1), frozenset({"thread", "write"})),
     Subject("a replay of a join", "replay f s", {"f": FIVE, "s": b"join A\n"},
             done(FOUR_MOVES + b"owner,0,A\nowner,1,A\nowner,2,A\nowner,3,A\n"
-                 b"offset,0,0,2\noffset,1,0,1\noffset,2,0,1\noffset,3,0,1\ntotal,0,5\n")),
+                 b"offset,0,0,2\noffset,1,0,1\noffset,2,0,1\noffset,3,0,1\ntotal,0,5\n"), frozenset(), helpers=1),
     Subject("a replay of a drain", "replay f s", {"f": FIVE, "s": b"join A\nsettle\njoin B\ndrain\nappend 21\n"},
             done(FOUR_MOVES + b"move,3,2,A,B\nmove,3,3,A,B\nowner,0,A\nowner,1,A\nowner,2,B\nowner,3,B\n"
                  b"offset,0,2,3\noffset,1,1,1\noffset,2,1,1\noffset,3,1,1\n"
-                 b"count,21,2\ncount,4,1\ncount,foobar,1\ncount,abc,1\ntotal,5,6\n")),
-    Subject("a replay of each line over quoted fields", "replay f s --header --column 2", {"f": QUOTED, "s": SCRIPT}),
-    Subject("a replay over long keys", "replay f s --batch 1", {"f": lines_of(LONG_KEYS), "s": b"join A\njoin B\ndrain\n"}),
-    Subject("a replay over many keys", "replay f s", {"f": lines_of(MANY_KEYS), "s": b"join A\njoin B\ndrain\n"}),
+                 b"count,21,2\ncount,4,1\ncount,foobar,1\ncount,abc,1\ntotal,5,6\n"), frozenset(), helpers=1),
+    Subject("a replay of each line over quoted fields", "replay f s --header --column 2", {"f": QUOTED, "s": SCRIPT}, None,
+            frozenset(), helpers=1),
+    Subject("a replay over long keys", "replay f s --batch 1", {"f": lines_of(LONG_KEYS), "s": b"join A\njoin B\ndrain\n"},
+            None, frozenset(), helpers=2),
+    Subject("a replay over many keys", "replay f s", {"f": lines_of(MANY_KEYS), "s": b"join A\njoin B\ndrain\n"}, None,
+            frozenset(), helpers=1),
     Subject("a replay of a bad line", "replay f s", {"f": FIVE, "s": b"join A\njion B\n"},
-            Outcome(b"", b"fault 22 at line 2\n", 1), frozenset({"thread", "write", "random"})),
+            Outcome(b"", b"fault 22 at line 2\n", 1), frozenset({"thread", "write"})),
     Subject("a trace of a join", "trace f s", {"f": FIVE, "s": b"join A\nsync A\n"},
             done(b"line,step,event,member,partition,from,to,commit,code,reason,generation,phase,waiting,granted,unread,lag\n"
-                 b"1,1,join,A,,,,,,,1,stable,,A 0-3,0-3,5\n2,1,sync,A,,,,,,,1,stable,,A 0-3,,5\n")),
-    Subject("a trace of each line over quoted fields", "trace f s --header --column 2", {"f": QUOTED, "s": SCRIPT}),
+                 b"1,1,join,A,,,,,,,1,stable,,A 0-3,0-3,5\n2,1,sync,A,,,,,,,1,stable,,A 0-3,,5\n"), frozenset(), helpers=1),
+    Subject("a trace of each line over quoted fields", "trace f s --header --column 2", {"f": QUOTED, "s": SCRIPT}, None,
+            frozenset(), helpers=1),
     Subject("a trace of a bad line", "trace f s", {"f": FIVE, "s": b"join A\njion B\n"},
-            Outcome(b"", b"fault 22 at line 2\n", 1), frozenset({"thread", "write", "random"})),
-    Subject("a picture of each line over quoted fields", "draw f s --header --column 2", {"f": QUOTED, "s": SCRIPT}),
-    Subject("a table of partitions", "place f", {"f": FIVE}),
-    Subject("a table of many keys", "place f --keys", {"f": lines_of(MANY_KEYS)}),
+            Outcome(b"", b"fault 22 at line 2\n", 1), frozenset({"thread", "write"})),
+    Subject("a picture of each line over quoted fields", "draw f s --header --column 2", {"f": QUOTED, "s": SCRIPT}, None,
+            frozenset(), helpers=1),
+    Subject("a table of partitions", "place f", {"f": FIVE}, None, frozenset(), helpers=1),
+    Subject("a table of many keys", "place f --keys", {"f": lines_of(MANY_KEYS)}, None, frozenset(), helpers=1),
     Subject("misplaced records", "place f --given 1 --header", {"f": FIVE}, Outcome(
-        b"record,key,given,place\n2,4,4,1\n3,foobar,foobar,2\n4,abc,abc,3\n5,21,21,0\n", b"", 1)),
+        b"record,key,given,place\n2,4,4,1\n3,foobar,foobar,2\n4,abc,abc,3\n5,21,21,0\n", b"", 1), frozenset(), helpers=1),
     Subject("places of blocks", "place f --partitions 1 --given 2", {"f": b"".join(key + b",0\n" for key in KEYS_IN_BLOCKS)},
             done(b"record,key,given,place\n"), frozenset(), frozenset({"malloc", "thread", "random"})),
     Subject("an explanation", "explain 11", {}, None, frozenset(FAULTS) - {"write", "malloc"}),
@@ -98,17 +107,18 @@ SUBJECTS = [
     Subject("a run", "run f s", {"f": FIVE, "s": b"join A\njoin B\nleave A\n"},
             done(FOUR_MOVES + b"move,3,2,A,B\nmove,3,3,A,B\nmove,4,0,A,B\nmove,4,1,A,B\n"
                  b"owner,0,B\nowner,1,B\nowner,2,B\nowner,3,B\n"
-                 b"offset,0,2,2\noffset,1,1,1\noffset,2,1,1\noffset,3,1,1\n" + FIVE_COUNTS), frozenset()),
+                 b"offset,0,2,2\noffset,1,1,1\noffset,2,1,1\noffset,3,1,1\n" + FIVE_COUNTS), frozenset(), helpers=1),
     Subject("a run over quoted fields", "run f s --header --column 2 --batch 1",
-            {"f": QUOTED, "s": b"# a plan\njoin A\njoin B\nlose A\njoin C\n"}, None, frozenset()),
-    Subject("a run over long keys", "run f s", {"f": lines_of(LONG_KEYS), "s": b"join A\njoin B\n"}, None, frozenset()),
+            {"f": QUOTED, "s": b"# a plan\njoin A\njoin B\nlose A\njoin C\n"}, None, frozenset(), helpers=1),
+    Subject("a run over long keys", "run f s", {"f": lines_of(LONG_KEYS), "s": b"join A\njoin B\n"}, None, frozenset(),
+            helpers=2),
 ]
 
 
-def is_right(subject: Subject, wanted: Outcome, kind: str, ended: Outcome) -> bool:
-    """Whether a run may end like this after a call of this kind failed."""
+def is_right(subject: Subject, wanted: Outcome, kind: str, nth: int, ended: Outcome) -> bool:
+    """Whether a run may end like this after this call of a kind failed."""
     if ended == wanted:
-        return kind in subject.spared
+        return kind in subject.spared or kind == "thread" and nth <= subject.helpers
     written = wanted.stdout.startswith(ended.stdout) if kind == "write" else ended.stdout == b""
     return written and (ended.stderr, ended.status) == (FAULTS[kind], 3)
 
@@ -142,7 +152,7 @@ class Sweep:
                     yield f"with no failure (call {nth}) it ends with {ended}"
                 return
             mark.unlink()
-            if not is_right(self.subject, self.wanted, kind, ended):
+            if not is_right(self.subject, self.wanted, kind, nth, ended):
                 yield f"after call {nth} failed it ends with {ended}"
 
     def is_short(self) -> bool:
