@@ -90,15 +90,6 @@ fault-of expected e kind (inl memory) = absurd (cc memory)
 fault-of expected e kind (inr (inl read)) = absurd (cc read)
 fault-of expected e kind (inr (inr is)) = is
 
-pub refused-source : (options : Options) (left : Option (List ℕ)) (e : Refusal) → IsNoWrite e → (e ≡ r.Memory) ⊎ ((e ≡ r.ReadFailed) ⊎ IsRecordsFault options left e)
-    → IfSome left (λ bytes. IsFaultOf (report_of_count options bytes) e)
-refused-source options None e kind so = tt
-refused-source options (Some bytes) e kind so =
-    fault-of (report_of_count options bytes) e kind (elim so [
-      | inl memory ↦ inl memory
-      | inr other ↦ elim other [ inl read ↦ inr (inl read) | inr is ↦ inr (inr (ap (report_of_read (report_of_records options.top (partition_counts options))) is)) ]
-    ])
-
 -- the same of a record that can't be appended
 key-fault : (options : Options) (left left2 : Option (List ℕ)) (counting : Counting) (refusal : Refusal) → CountsFile options left left2 counting (Some refusal) → IsKeyFault refusal
 key-fault options left left2 counting refusal file =

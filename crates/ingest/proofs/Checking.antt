@@ -69,21 +69,10 @@ pub follows : (delimiter : ℕ) (wanted : Taking) (header : Bool) (read chunk : 
 follows delimiter wanted header read chunk width records keys all at so whole =
     follows-as delimiter wanted header read chunk width records keys all (chunk_keys delimiter wanted header width chunk) at so whole refl
 
--- ---- a check begins
-pub begins-kept : (counts : List ℕ) (has_topics : Bool) (workers : List Entries) (total more : ℕ) (check : Option Limits) → (is_some check ≡ true) ⊎ (total + more ≤ MOST_RECORDS)
-    → BeginsCheck counts has_topics workers total more check check
-begins-kept counts has_topics workers total more None (inl some) = absurd (cc some)
-begins-kept counts has_topics workers total more None (inr few) = λ keys order so many within. (within, few)
-begins-kept counts has_topics workers total more (Some check) why = λ keys order so many within. (within, tt)
-
 pub begins-new : (counts : List ℕ) (has_topics : Bool) (workers : List Entries) (total more : ℕ) (old : Option Limits) (check : Limits) → is_some old ≡ false → BeginsAfter counts has_topics workers check
     → BeginsCheck counts has_topics workers total more old (Some check)
 begins-new counts has_topics workers total more None check none begins = λ keys order so many within. ((λ few. begins keys order so within), tt)
 begins-new counts has_topics workers total more (Some old) check none begins = absurd (cc none)
-
--- ---- the fault at the end
-pub fault-checked : (counts : List ℕ) (has_topics : Bool) (workers : List Entries) (segments : List Segment) (check : Limits) → IsFirstFault counts has_topics workers segments (Some check) check.fault
-fault-checked counts has_topics workers segments check = λ keys so within few. (within few).fault
 
 pub fault-unchecked : (counts : List ℕ) (has_topics : Bool) (workers : List Entries) (segments : List Segment) → IsFirstFault counts has_topics workers segments None (long_fault_of has_topics workers)
 fault-unchecked counts has_topics workers segments = λ keys so within few. unfilled counts has_topics keys (keys_of workers segments) workers so within

@@ -269,13 +269,6 @@ begun counts has_topics taken order workers check adds so few =
           omega (arith, there, total, nothing);
     }
 
--- ---- the same records as those of a file
-pub taken-of_first : (keys : List Key) → records_taken false keys ≡ in_first keys
-taken-of_first keys = refl
-
-pub taken-of_topics : (keys : List Key) → records_taken true keys ≡ map record_of keys
-taken-of_topics keys = refl
-
 -- ---- the topics of the entries are those of the records
 all-grown : (P : Key → Type 0) (b : Bool) (keys : List Key) (key : Key) → All P keys → P key → All P (if b then keys else keys ++ key ∷ [])
 all-grown P true keys key old own = old

@@ -33,19 +33,10 @@ record_fault-is counts l before keyed a h same topic =
     ∙ ap (λ m. if nat_lt LONGEST_KEY (length key) then Some r.KeyTooLong else if exceeds_limits l.keys m key then Some r.LogFull else None) records
     ∙ ap (λ keys. if nat_lt LONGEST_KEY (length key) then Some r.KeyTooLong else if exceeds_limits keys (records_in_its_partition counts before keyed) key then Some r.LogFull else None) h.numbers
 
-pub first_fault-nil : (counts : List ℕ) (before : List Keyed) → first_fault counts before [] ≡ None
-unfolding first_fault
-first_fault-nil counts before = refl
-
 pub first_fault-later : (counts : List ℕ) (before : List Keyed) (keyed : Keyed) (records : List Keyed) → record_fault counts before keyed ≡ None
     → first_fault counts before (keyed ∷ records) ≡ first_fault counts (before ++ keyed ∷ []) records
 unfolding first_fault
 first_fault-later counts before keyed records h = rw h refl
-
-pub first_fault-now : (counts : List ℕ) (before : List Keyed) (keyed : Keyed) (records : List Keyed) (fault : Refusal) → record_fault counts before keyed ≡ Some fault
-    → first_fault counts before (keyed ∷ records) ≡ Some fault
-unfolding first_fault
-first_fault-now counts before keyed records fault h = rw h refl
 
 none_in : {T : Type 0} (answer : Result T Refusal) → IsOk answer → fault_in answer ≡ None
 none_in (Ok v) h = refl
@@ -57,20 +48,3 @@ taken counts l before keyed a h same topic ok = sym (record_fault-is counts l be
 pub refused : (counts : List ℕ) (l : PartitionLogs) (before : List Keyed) (keyed : Keyed) (fault : Refusal) → IsValidLogs l → AreLogsOf before l → l.counts ≡ counts → IsOfTopic l keyed → append_answer l keyed ≡ Err fault
     → record_fault counts before keyed ≡ Some fault
 refused counts l before keyed fault a h same topic e = sym (record_fault-is counts l before keyed a h same topic) ∙ ap fault_in e
-
-kind-at : {T : Type 0} (a b : Bool) (v : T) (fault : Refusal) → (if a then Err r.KeyTooLong else if b then Err r.LogFull else Ok v) ≡ Err fault → IsKeyFault fault
-kind-at true b v fault e = let is : r.KeyTooLong ≡ fault = cc e in subst IsKeyFault is tt
-kind-at false true v fault e = let is : r.LogFull ≡ fault = cc e in subst IsKeyFault is tt
-kind-at false false v fault e = absurd (cc e)
-
-pub record_fault-kind : (l : PartitionLogs) (keyed : Keyed) (fault : Refusal) → (fault ≡ r.Memory) ⊎ (append_answer l keyed ≡ Err fault) → IsKeyFault fault
-record_fault-kind l keyed fault (inl e) = subst IsKeyFault (sym e) tt
-record_fault-kind l keyed fault (inr e) = kind-at (nat_lt LONGEST_KEY (length keyed.1)) (is_full_for l (place_in l keyed) keyed.1) _ fault e
-
-pub refused_as_expected : {T : Type 0} (expected : Result T Refusal) (fault : Refusal) → Answers expected (Err fault) → (fault ≡ r.Memory) ⊎ (expected ≡ Err fault)
-refused_as_expected expected fault (inl e) = inr (sym e)
-refused_as_expected expected fault (inr e) = inl (cc e)
-
-pub fault_or_is : (fault : Option Refusal) (text : List ℕ) (e : Refusal) → (e ≡ r.Memory) ⊎ (fault ≡ Some e) → (e ≡ r.Memory) ⊎ (fault_or fault text ≡ Err e)
-fault_or_is fault text e (inl m) = inl m
-fault_or_is fault text e (inr h) = inr (ap (λ f. fault_or f text) h)

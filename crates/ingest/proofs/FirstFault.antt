@@ -125,11 +125,3 @@ any-with_keys p ks (z ∷ zs) =
 pub any-distinct : (p : Key → Bool) (keys : List Key) → list_any p (distinct keys) ≡ list_any p keys
 unfolding distinct
 any-distinct p keys = any-with_keys p [] keys
-
--- ---- a long key among the different keys is one among the records
-pub long-distinct : (records : List Keyed) → list_any (λ keyed. is_too_long keyed.1) records ≡ list_any is_too_long (distinct (keys_in records))
-long-distinct records = any-records records ∙ sym (any-distinct is_too_long (keys_in records))
-
-pub first_fault-few : (counts : List ℕ) (records : List Keyed) → length records ≤ MOST_RECORDS
-    → first_fault counts [] records ≡ (if list_any (λ keyed. nat_lt LONGEST_KEY (length keyed.1)) records then Some r.KeyTooLong else None)
-first_fault-few counts records few = first_fault-long counts records few ∙ ap (λ b. if b then Some r.KeyTooLong else None) (sym (any-records records))

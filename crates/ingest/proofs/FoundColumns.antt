@@ -19,15 +19,6 @@ use Rattle.ingest.specs.Private.Columns.{AreColumns, FindsColumns, FoundColumns,
 use Rattle.ingest.specs.Records.{column_in, records_among, records_of, topic_column_in}
 use Rattle.ingest.specs.declared.columns.Columns.{Columns}
 
--- ---- a column by its number, or by the header
-column-numbered : (delimiter : ℕ) (file other : List ℕ) (column : Column) → is_named column ≡ false → column_in delimiter file column ≡ column_in delimiter other column
-column-numbered delimiter file other (Number n) numbered = refl
-column-numbered delimiter file other (Named name) numbered = absurd (cc numbered)
-
-topic-numbered : (delimiter : ℕ) (file other : List ℕ) (topics : List Topic) (column : Column) → is_named column ≡ false → topic_column_in delimiter file topics column ≡ topic_column_in delimiter other topics column
-topic-numbered delimiter file other [] column numbered = refl
-topic-numbered delimiter file other (topic ∷ topics) column numbered = column-numbered delimiter file other column numbered
-
 column-by_header : (delimiter : ℕ) (file other : List ℕ) (column : Column) → header_of (file_records delimiter file) ≡ header_of (file_records delimiter other) → column_in delimiter file column ≡ column_in delimiter other column
 column-by_header delimiter file other (Number n) same = refl
 column-by_header delimiter file other (Named name) same = column-same LAST_COLUMN name.items (file_records delimiter file) (file_records delimiter other) same
@@ -42,12 +33,6 @@ consumes-none : (left : Option (List ℕ)) → Consumes left left []
 consumes-none None = tt
 consumes-none (Some xs) = refl
 
-pub filled-none : (at_end : Bool) (left : Option (List ℕ)) (window : List ℕ) → window ≡ [] → at_end ≡ false → IsFilled at_end left left window
-filled-none at_end left window none before = record {
-  consumed = subst (Consumes left left) (sym none) (consumes-none left);
-  ended = λ is. absurd (cc (sym before ∙ is));
-}
-
 pub filled-more : (at_end end : Bool) (left left2 left3 : Option (List ℕ)) (window window2 : List ℕ) → IsFilled at_end left left2 window → Refills at_end end left2 left3 window window2 → IsFilled end left left3 window2
 filled-more true end left left2 left3 window window2 so f = rw (f.0, f.1, f.2) so
 filled-more false end left left2 left3 window window2 so f = record {
@@ -55,28 +40,8 @@ filled-more false end left left2 left3 window window2 so f = record {
   ended = f.1;
 }
 
--- the same bytes in a larger buffer
-pub filled-kept : (at_end at_end2 : Bool) (left left2 : Option (List ℕ)) (window window2 : List ℕ) → at_end2 ≡ at_end → window2 ≡ window → IsFilled at_end left left2 window → IsFilled at_end2 left left2 window2
-filled-kept at_end at_end2 left left2 window window2 same kept so = rw (same, kept) so
-
--- ---- a window that has the header
-pub header-all : (delimiter : ℕ) (at_end : Bool) (left left2 : Option (List ℕ)) (window : List ℕ) → at_end ≡ true → IsFilled at_end left left2 window → ReadsHeader delimiter at_end left left2 window
-header-all delimiter at_end left left2 window ended so = record {
-  filled = so;
-  header = λ more end. ap (λ xs. header_of (file_records delimiter xs)) (ap (λ xs. window ++ xs) (end ended) ∙ append-nil window);
-}
-
 pub header-within : (delimiter : ℕ) (at_end : Bool) (left left2 : Option (List ℕ)) (window : List ℕ) → HasHeader delimiter window → IsFilled at_end left left2 window → ReadsHeader delimiter at_end left left2 window
 header-within delimiter at_end left left2 window has so = record { filled = so; header = λ more end. has more }
-
--- ---- the columns are known
-pub knows-numbered : (options : Options) (at_end : Bool) (left : Option (List ℕ)) (window : List ℕ) → window ≡ [] → at_end ≡ false → is_named options.column ≡ false → is_named options.topic_column ≡ false
-    → KnowsColumns options at_end left left window
-knows-numbered options at_end left window none before key topic = record {
-  filled = filled-none at_end left window none before;
-  key = λ more end. column-numbered options.delimiter (window ++ more) window options.column key;
-  topic = λ more end. topic-numbered options.delimiter (window ++ more) window options.topics.items options.topic_column topic;
-}
 
 pub knows-named : (options : Options) (at_end : Bool) (left left2 : Option (List ℕ)) (window : List ℕ) → ReadsHeader options.delimiter at_end left left2 window → KnowsColumns options at_end left left2 window
 knows-named options at_end left left2 window so = record {
@@ -101,16 +66,6 @@ found-is expected x (inr memory) = absurd (cc memory)
 
 pub finds-both : (options : Options) (file : List ℕ) (columns : Columns) → Answers (key_column options file) (Ok columns.key) → Answers (topic_column options file) (Ok columns.topic) → FindsColumns options file (Ok columns)
 finds-both options file columns key topic = record { key = found-is (key_column options file) columns.key key; topic = found-is (topic_column options file) columns.topic topic }
-
-pub finds-no_key : (options : Options) (file : List ℕ) (e : Refusal) → Answers (key_column options file) (Err e) → FindsColumns options file (Err e)
-finds-no_key options file e key = elim (answered (key_column options file) e key) [ inl memory ↦ inl memory | inr fault ↦ inr (inl fault) ]
-
-pub finds-no_topic : (options : Options) (file : List ℕ) (key : ℕ) (e : Refusal) → Answers (key_column options file) (Ok key) → Answers (topic_column options file) (Err e) → FindsColumns options file (Err e)
-finds-no_topic options file key e found topic =
-    elim (answered (topic_column options file) e topic) [
-      | inl memory ↦ inl memory
-      | inr fault ↦ inr (inr (key, found-is (key_column options file) key found, fault))
-    ]
 
 pub found : (options : Options) (at_end : Bool) (left left2 : Option (List ℕ)) (window : List ℕ) (result : Result Columns Refusal) → KnowsColumns options at_end left left2 window → FindsColumns options window result
     → IfOk result (FoundColumns options at_end left left2 window)

@@ -100,17 +100,9 @@ takes-among column topic_column partitions (topic ∷ topics) names some is =
     ap length is ∙ length-map (topic ∷ topics) (λ (t : Topic). t.name) ∙ sym (length-map (topic ∷ topics) (λ (t : Topic). t.partitions)) in
     λ fields key e. subst (λ n. topic_of key < n) long (topic-among names (field_at fields _) (field_at fields _) key e)
 
-pub topics-among : (delimiter column topic_column : ℕ) (header : Bool) (partitions : ℕ) (topics : List Topic) (bytes : List ℕ) (names keys : List (List ℕ)) → (length topics == 0) ≡ false → names ≡ map (λ (t : Topic). t.name) topics
-    → topic_keys_of delimiter column topic_column names header bytes ≡ Ok keys → AreOfTopics (counts_among partitions topics) (map record_of keys)
-topics-among delimiter column topic_column header partitions topics bytes names keys some is e =
-    file-topics delimiter (topic_key_in column topic_column names) header (counts_among partitions topics) true bytes keys (takes-among column topic_column partitions topics names some is) e
-
 firsts : (n : ℕ) → 1 ≤ n → (keys : List Key) → All (λ (k : Keyed). k.0 < n) (in_first keys)
 firsts n some [] = All-nil (λ (k : Keyed). k.0 < n)
 firsts n some (key ∷ keys) = All-cons (λ (k : Keyed). k.0 < n) (of_first key) (in_first keys) some (firsts n some keys)
-
-pub first-among : (partitions : ℕ) (topics : List Topic) (keys : List Key) → AreOfTopics (counts_among partitions topics) (in_first keys)
-first-among partitions topics keys = firsts (length (counts_among partitions topics)) (some-count partitions topics) keys
 
 -- ---- the keys read are those of the records
 pub topic-records : (delimiter : ℕ) (header : Bool) (column topic_column : ℕ) (bytes : List ℕ) (topics : List Topic) (names : List (List ℕ)) → (length topics == 0) ≡ false → names ≡ map (λ (t : Topic). t.name) topics
@@ -118,10 +110,6 @@ pub topic-records : (delimiter : ℕ) (header : Bool) (column topic_column : ℕ
 topic-records delimiter header column topic_column bytes [] names some is = absurd (cc some)
 topic-records delimiter header column topic_column bytes (topic ∷ topics) names some is =
     ap (λ ns. result_map_both (map record_of) (λ fault. fault) (topic_keys_of delimiter column topic_column ns header bytes)) (sym is)
-
-pub records-refused : {A B : Type 0} (f : A → B) (taken : Result A Refusal) (all : Result B Refusal) (e : Refusal) → all ≡ result_map_both f (λ fault. fault) taken → (e ≡ r.Memory) ⊎ (taken ≡ Err e) → (e ≡ r.Memory) ⊎ (all ≡ Err e)
-records-refused f taken all e is (inl m) = inl m
-records-refused f taken all e is (inr h) = inr (is ∙ ap (result_map_both f (λ fault. fault)) h)
 
 -- what is taken for a count are the records of the columns
 pub takes-key : (options : Options) (column topic_column : ℕ) → (length options.topics.items == 0) ≡ true → TakesColumns options column topic_column (key_in column)

@@ -42,16 +42,3 @@ pub all-keys-stay : (olds news : List Entries) (segments : List Segment) → Are
 all-keys-stay olds news [] grown parts = refl
 all-keys-stay olds news (s ∷ segments) grown parts =
     ap₂ (λ a b. a ++ b) (keys-stay olds news s grown (parts 0 s (omega arith))) (all-keys-stay olds news segments grown (λ k d lt. parts (suc k) d (omega (arith, lt))))
-
--- one more segment, of the keys that are new
-pub keys-pushed : (workers : List Entries) (segments : List Segment) (w : ℕ) (known added : List Key) → (entries_of workers w).keys ≡ known ++ added
-    → keys_of workers (segments ++ (record { worker = w; from = length known; to = length (entries_of workers w).keys }) ∷ []) ≡ keys_of workers segments ++ added
-keys-pushed workers segments w known added is =
-    let s : Segment = record { worker = w; from = length known; to = length (entries_of workers w).keys } in
-    let new : keys_in workers s ≡ added = ap₂ (λ (ks : List Key) n. slice_range ks (length known) n) is (ap length is) ∙ slice-new known added in
-    flat_map-append (keys_in workers) segments (s ∷ []) ∙ ap (λ ks. keys_of workers segments ++ ks) (append-nil (keys_in workers s) ∙ new)
-
-pub part-pushed : (workers : List Entries) (segments : List Segment) (s : Segment) → All (IsSegment workers) segments → IsSegment workers s → All (IsSegment workers) (segments ++ s ∷ [])
-part-pushed workers segments s parts part =
-    let P = IsSegment workers in
-    All-append P segments (s ∷ []) parts (All-cons P s [] part (All-nil P))

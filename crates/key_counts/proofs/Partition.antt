@@ -57,25 +57,6 @@ all-none lens none = λ f.
     zero-at (n ∷ lens) zero none = none 0 0 (omega arith)
     zero-at (n ∷ lens) (suc w) none = zero-at lens w (λ k d lt. none (suc k) d (omega (arith, lt)))
 
-pub all-more : (lens : List ℕ) (segments : List Segment) (w n : ℕ) → w < length lens → get_or lens w 0 ≤ n → AreAll lens segments
-    → AreAll (slice_set lens w n) (segments ++ (record { worker = w; from = get_or lens w 0; to = n }) ∷ [])
-all-more lens segments w n lt le all = λ f.
-    let from = get_or lens w 0 in
-    let s : Segment = record { worker = w; from = from; to = n } in
-    let before : ℕ → ℕ = λ v. sum_below (get_or lens v 0) (f v) in
-    let now : ℕ → ℕ = λ v. sum_below (get_or (slice_set lens w n) v 0) (f v) in
-    let parts : sum_by (sum_over f) (segments ++ s ∷ []) ≡ sum_by (sum_over f) segments + sum_over f s =
-    sum_by-append (sum_over f) segments (s ∷ []) ∙ ap (λ m. sum_by (sum_over f) segments + m) (sum_by-cons (sum_over f) s [] ∙ plus-none (sum_over f s)) in
-    let up : from + (n - from) ≡ n = omega (arith, le) in
-    let here : now w ≡ before w + sum_over f s =
-    ap (λ m. sum_below m (f w)) (get_or-set_same lens w n 0 lt) ∙ ap (λ m. sum_below m (f w)) (sym up) ∙ sum-split from (n - from) (f w) in
-    let others : (v : ℕ) → v ≢ w → now v ≡ before v = λ v ne. ap (λ m. sum_below m (f v)) (get_or-set_other lens w v n 0 ne) in
-    let long : length (slice_set lens w n) ≡ length lens = length-set lens w n in
-    parts ∙ ap (λ m. m + sum_over f s) (all f) ∙ sym (sum-more (length lens) w (sum_over f s) before now lt others here) ∙ ap (λ m. sum_below m now) (sym long)
-  where
-    plus-none : (m : ℕ) → m + 0 ≡ m
-    plus-none m = omega arith
-
 -- ---- what entries took, by code
 abbrev pub took : (Key → ℕ) → Entries → ℕ → ℕ
 took f entries c = get_or entries.counts c 0 * f (key_at entries.keys c)

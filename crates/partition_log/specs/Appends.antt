@@ -32,15 +32,6 @@ AreAccepted l (one ∷ records) =
 abbrev pub AreAppended : PartitionLogs → List Placed → PartitionLogs → Type 0
 AreAppended l records l2 = AreAccepted l records × (l2 ≡ with_records l records)
 
--- the appends of these records stopped after n of them: exactly those were appended, and the append
--- of the next one is refused
-pub record AreStoppedAfter (n : ℕ) (why : Refusal) (l : PartitionLogs) (records : List Placed)
-    (l2 : PartitionLogs) : Type 0 where
-  pub among : n < length records
-  pub appended : AreAppended l (take n records) l2
-  pub refused : (let one = slice_index_or records n (0, []) in
-      Answers (answer_at l2 one.0 one.1) (Err why))
-
 -- if the logs were those of a list of records, they are then those of the list with these at its
 -- end
 abbrev pub GrowByRecords : List Keyed → PartitionLogs → PartitionLogs → Type 0

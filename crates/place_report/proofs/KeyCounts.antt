@@ -51,12 +51,6 @@ next_counts l from p counts h = record {
       ap (λ m. so_far l from n + m) raised ∙ sum ∙ ap (λ q. so_far l q n) (sym next);
 }
 
-pub no_counts : (l : PartitionLogs) (from : ℕ) (counts : List ℕ) → length counts ≡ length l.keys → ((n : ℕ) → n < length l.keys → get_or counts n 0 ≡ 0) → AreCountsBetween l from from counts
-no_counts l from counts long zeros = record {
-  one_each = long;
-  counted = λ n lt. omega (arith, zeros n lt);
-}
-
 -- ---- topics have partitions of their own
 next_topic : (counts : List ℕ) (t : ℕ) → t < length counts → partitions_before counts (t + 1) ≡ partitions_before counts t + get_or counts t 0
 next_topic counts t lt = sum_by_more (λ (n : ℕ). n) counts t 0 lt
@@ -144,10 +138,6 @@ topic_counts_are l t from to counts a t_in from_is to_is h = record {
       (λ q q_le q_lt other. elsewhere_none l t n q a t_in lt (omega (arith, q_le, from_is)) (omega (arith, q_lt, from_is)) other) in
       omega (arith, h.counted n lt, ap (λ q. sum_below q f) to_is, all);
 }
-
--- ---- topic by topic
-pub topics_end : (l : PartitionLogs) (t from : ℕ) → IsValidLogs l → t < length l.counts → from ≡ partitions_before l.counts t → from + get_or l.counts t 0 ≤ l.partitions
-topics_end l t from a lt from_is = omega (arith, sum_by_more_le (λ (n : ℕ). n) l.counts t 0 lt, from_is, a.in_all)
 
 pub topics_next : (l : PartitionLogs) (t from to : ℕ) → t < length l.counts → from ≡ partitions_before l.counts t → to ≡ from + get_or l.counts t 0 → to ≡ partitions_before l.counts (t + 1)
 topics_next l t from to lt from_is to_is = omega (arith, next_topic l.counts t lt, from_is, to_is)

@@ -61,11 +61,6 @@ own-records workers s d so =
     let among : s.worker < length workers = omega (arith, so.worker, length-map workers as_records) in
     get_or-map as_records workers s.worker d (no_entries false) among
 
-pub chunk-within : (workers : List Entries) (s : Segment) (d : Entries) → IsSegment (all_records workers) s → s.to ≤ length (get_or workers s.worker d).codes
-chunk-within workers s d so =
-    let entries = get_or workers s.worker d in
-    omega (arith, so.within, ap (λ (e : Entries). length e.keys) (own-records workers s d so), length-map entries.codes (key_at entries.keys))
-
 pub adds-chunk : (taken : TakenRecords) (i : ℕ) (no_chunk : Segment) (d : Entries) (old new : RecordList) → i < length taken.chunks.now → All (IsSegment (all_records taken.workers.now)) taken.chunks.now
     → (let s = get_or taken.chunks.now i no_chunk in
     IsListOf (so_far taken i) old → AddsRecords old new (records_taken taken.has_topics (slice_range (records_of (get_or taken.workers.now s.worker d)) s.from s.to)) → IsListOf (so_far taken (i + 1)) new)

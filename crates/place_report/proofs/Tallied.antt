@@ -60,15 +60,6 @@ one_less ids counters i lowered lt within is h x x_in =
           omega (arith, get_or-set_other counters id x lowered 0 other, none)
     ]
 
--- the counter of the number at hand is not zero
-pub some_left : (ids counters : List ℕ) (i : ℕ) → i < length ids → get_or ids i 0 < length counters → AreCountsOf (drop i ids) counters → 1 ≤ get_or counters (get_or ids i 0) 0
-some_left ids counters i lt within h =
-    let id = get_or ids i 0 in
-    let test : (id == id) ≡ true = eq-eqb id id refl in
-    let is : get_or counters id 0 ≡ 1 + table.plain (drop (i + 1) ids) id =
-    h id within ∙ sum_by-drop_more (λ y. cond (id == y) 1 0) ids i 0 lt ∙ ap (λ b. cond b 1 0 + table.plain (drop (i + 1) ids) id) test in
-    omega (arith, is)
-
 -- ---- different keys
 not_yet : (old keys : List Key) (x : Key) → is_interned old x ≡ false → plain keys x ≡ 0 → is_interned (fold with_key old keys) x ≡ false
 not_yet old [] x new none = new
@@ -178,10 +169,6 @@ tally_is all ids tally without_repeats below different most largest =
       largest = ap (option_map (key_at all)) largest ∙ largest_is all without_repeats ids tally.most below most_is_it;
       numbered = subst (λ found. IfSome found (λ id. id < length all)) (sym largest) (found_below (λ id. table.plain ids id == tally.most) (length all) ids below);
     }
-
--- ---- a search
-pub found_here : (p : ℕ → Bool) (ids : List ℕ) (i : ℕ) → i < length ids → find p (drop i ids) ≡ cond (p (get_or ids i 0)) (Some (get_or ids i 0)) (find p (drop (i + 1) ids))
-found_here p ids i lt = rw (add-one, drop-cons ids i 0) refl
 
 pub not_found : (p : ℕ → Bool) (ids : List ℕ) (i : ℕ) → length ids ≤ i → find p (drop i ids) ≡ None
 not_found p ids i le = ap (find p) (drop_all i ids le)

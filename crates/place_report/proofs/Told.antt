@@ -27,18 +27,6 @@ told_row topics given i no_key no_text many lt differs =
     let row = misplaced_row topics (given.first + i) (get_or given.keys.now i no_key).now (get_or given.texts.now i no_text).now (get_or given.places.now i 0) in
     rw (key, text, differs) (append-nil row)
 
-pub no_row : (topics : List Topic) (given : Given) (i : ℕ) (no_text : Bor (List ℕ)) → AreAsMany given → i < length given.places.now
-    → bytes_eq (get_or given.texts.now i no_text).now (number_text topics (get_or given.places.now i 0)) ≡ true → row_at topics given i ≡ []
-no_row topics given i no_text many lt same =
-    let text = get_or-map (λ (text : Bor (List ℕ)). text.now) given.texts.now i no_text [] (omega (arith, lt, many.texts)) in
-    rw (text, same) refl
-
-pub a_row : (topics : List Topic) (given : Given) (i : ℕ) (no_text : Bor (List ℕ)) → AreAsMany given → i < length given.places.now
-    → bytes_eq (get_or given.texts.now i no_text).now (number_text topics (get_or given.places.now i 0)) ≡ false → length (row_at topics given i) ≡ 1
-a_row topics given i no_text many lt differs =
-    let text = get_or-map (λ (text : Bor (List ℕ)). text.now) given.texts.now i no_text [] (omega (arith, lt, many.texts)) in
-    rw (text, differs) refl
-
 -- ---- the rest
 before_rest : (b : Bool) (row : List ℕ) (rest : List (List ℕ)) → (if b then rest else row ∷ rest) ≡ (if b then [] else row ∷ []) ++ rest
 before_rest true row rest = refl
@@ -74,9 +62,6 @@ next_row topics given i many lt =
 pub no_rows : (topics : List Topic) (given : Given) (i : ℕ) → length given.places.now ≤ i → misplaced_from topics given i ≡ []
 unfolding misplaced_rows
 no_rows topics given i le = ap (λ ps. misplaced_rows topics (given.first + i) ps (drop i (keys_of given)) (drop i (texts_of given))) (drop_all i given.places.now le)
-
-pub from_first : (topics : List Topic) (given : Given) → misplaced_from topics given 0 ≡ misplaced_in topics given
-from_first topics given = let e : given.first + 0 ≡ given.first = omega arith in ap (λ nth. misplaced_rows topics nth given.places.now (keys_of given) (texts_of given)) e
 
 -- ---- the rows that are told
 single : (row : List (List ℕ)) → length row ≡ 1 → (one : List ℕ) × (row ≡ one ∷ [])
