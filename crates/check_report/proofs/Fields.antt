@@ -57,24 +57,6 @@ taken-alone wants fields key none at = record {
   long = rw none refl;
 }
 
-pub taken-no_key : (wants : Wants) (fields : Record) → field_at fields (wants.column - 1) ≡ None → taken wants fields ≡ Err l.Column
-taken-no_key wants fields none = go wants.topics none
-  where
-    either : (names : List (List ℕ)) (topic : Option (List ℕ)) → behind_topic names topic None ≡ Err l.Column
-    either names None = refl
-    either names (Some topic) = refl
-
-    go : (topics : List Topic) → field_at fields (wants.column - 1) ≡ None → taking_among topics wants.column wants.topic_column fields ≡ Err l.Column
-    go [] none = rw none refl
-    go (topic ∷ topics) none = rw none (either (map (λ t. t.name) (topic ∷ topics)) (field_at fields (wants.topic_column - 1)))
-
-pub taken-no_topic : (wants : Wants) (fields : Record) → wants.topics ≢ [] → field_at fields (wants.topic_column - 1) ≡ None → taken wants fields ≡ Err l.Column
-taken-no_topic wants fields some none = go wants.topics some
-  where
-    go : (topics : List Topic) → topics ≢ [] → taking_among topics wants.column wants.topic_column fields ≡ Err l.Column
-    go [] some = absurd (some refl)
-    go (topic ∷ topics) some = rw none refl
-
 position-some : (p : List ℕ → Bool) (topics : List Topic) (i : ℕ) → list_any (λ t. p t.name) topics ≡ true → (k : ℕ) × (position_from p i (map (λ t. t.name) topics) ≡ Some k)
 position-some p [] i e = absurd (true≢false (sym e))
 position-some p (t ∷ ts) i e = go (p t.name) e (position-some p ts (i + 1))
@@ -118,12 +100,6 @@ taken-no_such wants fields key name some at named unknown = go wants.topics some
     go : (topics : List Topic) → topics ≢ [] → position_from (bytes_eq name) 0 (map (λ t. t.name) topics) ≡ None → taking_among topics wants.column wants.topic_column fields ≡ Err l.Topic
     go [] some e = absurd (some refl)
     go (topic ∷ topics) some e = rw (at, named) (ap (λ o. behind_index o key) e)
-
--- ---- one field
-pub delimiter-other : (fields : Record) → length fields ≢ 1 → delimiter_words fields ≡ None
-delimiter-other [] other = refl
-delimiter-other (field ∷ []) other = absurd (other refl)
-delimiter-other (field ∷ next ∷ fields) other = refl
 
 pub alone : (fields : Record) (field : List ℕ) → length fields ≡ 1 → field_at fields 0 ≡ Some field → fields ≡ field ∷ []
 unfolding field_at

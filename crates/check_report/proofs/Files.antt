@@ -36,7 +36,3 @@ unfolding findings_of_file
 file-findings options file first fields rest is =
     let more = zip-first (places options.delimiter file) (file_records options.delimiter file) first fields rest is in
     sym (rw (column-is options.delimiter file fields more.0 options.column more.1, topic_column-is options.delimiter file fields more.0 options.topics.items options.topic_column more.1, is) refl)
-
-pub no-findings : (options : Options) (file : List ℕ) → placed options.delimiter file ≡ [] → findings_of_file options file ≡ []
-unfolding findings_of_file
-no-findings options file is = rw is refl

@@ -137,10 +137,6 @@ pub plan-next : (before : Roster) (lines lines2 : List ScriptLine) (line : Scrip
 unfolding plan_findings_from
 plan-next before lines lines2 line is = rw is refl
 
-pub plan-none : (before : Roster) → plan_findings_from before [] ≡ []
-unfolding plan_findings_from
-plan-none before = refl
-
 pub none_told : (found : List Finding) (next : Option Finding) → found ++ option_to_list next ≡ [] → (found ≡ []) × (next ≡ None)
 none_told [] None e = (refl, refl)
 none_told [] (Some f) e = absurd (cc e)

@@ -38,6 +38,3 @@ after-end delimiter s i file le = rw (drop_all i file le) refl
 pub quote-is : (delimiter : ℕ) (file : List ℕ) (byte nth line : ℕ) (words : List ℕ) → in_quotes (stand_after delimiter k.Record (unmarked file)) ≡ true → byte ≡ last_field delimiter file → nth ≡ last_number (places delimiter file) → line ≡ line_at file byte
     → words ≡ codes "the quotes that open here are never closed" → quote_warnings delimiter file ≡ found_at None (record { nth = nth; line = line; byte = byte }) words ∷ []
 quote-is delimiter file byte nth line words opened at last on said = rw (opened, said, on, last, at) refl
-
-pub quote-none : (delimiter : ℕ) (file : List ℕ) → in_quotes (stand_after delimiter k.Record (unmarked file)) ≡ false → quote_warnings delimiter file ≡ []
-quote-none delimiter file closed = rw closed refl

@@ -46,16 +46,3 @@ starts-within delimiter s file i lt other = starts-at delimiter s file i lt ∙ 
 pub starts-end : (delimiter : ℕ) (s : Stand) (file : List ℕ) (i : ℕ) → length file ≤ i → starts_from delimiter s i (drop i file) ≡ []
 unfolding starts_from
 starts-end delimiter s file i le = rw (drop_all i file le) refl
-
--- ---- lines
-pub line-first : (file : List ℕ) → line_at file 0 ≡ 1
-line-first file = refl
-
-pub line-feed : (file : List ℕ) (i : ℕ) → i < length file → get_or file i 0 ≡ 10 → line_at file (i + 1) ≡ line_at file i + 1
-line-feed file i lt e = ap (λ n. n + 1) (count_by_more_yes is_line_feed file i 0 lt (rw e refl))
-
-pub line-same : (file : List ℕ) (i : ℕ) → i < length file → is_line_feed (get_or file i 0) ≡ false → line_at file (i + 1) ≡ line_at file i
-line-same file i lt e = ap (λ n. n + 1) (count_by_more_no is_line_feed file i 0 lt e)
-
-pub line-few : (file : List ℕ) (i : ℕ) → line_at file i ≤ i + 1
-line-few file i = omega (arith, count_by-le-length is_line_feed (take i file), length-take i file)

@@ -114,10 +114,6 @@ has_a_topic list topics items_parse =
 
 -- ---- one item
 
-no_name_or_count : (b : Bool) (topic : Topic) → cond (b && false) (Some topic) None ≡ None
-no_name_or_count true topic = refl
-no_name_or_count false topic = refl
-
 pub parsed_topic_fits : (item : List ℕ) (topic : Topic) → topic_of item ≡ Some topic
     → (is_name topic.name ≡ true) × (1 ≤ topic.partitions) × (topic.partitions ≤ 4096)
 unfolding topic_of
@@ -135,12 +131,6 @@ parsed_topic_fits item topic e =
         subst (λ (t : Topic). (is_name t.name ≡ true) × (1 ≤ t.partitions) × (t.partitions ≤ 4096)) same (named, some, few)
     at true false named counts e = let no : ⊥ = cc in absurd no
     at false counted named counts e = let no : ⊥ = cc in absurd no
-
-pub no_colon_no_topic : (item : List ℕ) → position_or_len is_colon item ≡ length item → topic_of item ≡ None
-unfolding topic_of
-no_colon_no_topic item e =
-    let none : after_first is_colon item ≡ [] = drop_all (position_or_len is_colon item + 1) item (omega (arith, e)) in
-    rw none (no_name_or_count (is_name (before_first is_colon item)) _)
 
 pub may_be_topics : (list : Option (List ℕ)) (topics : List Topic) → AreTopicsOf list topics → MayBeTopics topics
 may_be_topics None topics none = rw none no_topics

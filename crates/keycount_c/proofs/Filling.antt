@@ -17,29 +17,6 @@ pub record IsFilling {X : Type 0} (items rest : List X) (count : ℕ) (out old :
 pub filling_none : {X : Type 0} (items rest old : List X) → rest ≡ items → IsFilling items rest 0 old old
 filling_none items rest old e = let n = ap length e in record { front = e; back = λ m le. refl; len = refl; sum = omega (arith, n) }
 
--- there is room for one more
-pub filling_room : {X : Type 0} (items rest rest' out old : List X) (count : ℕ) (x : X) → rest ≡ x ∷ rest' → length items ≤ length old → IsFilling items rest count out old → count < length out
-filling_room items rest rest' out old count x e room f = let n = ap length e in omega (arith, n, room, f.sum, f.len)
-
-pub filling_one : {X : Type 0} (items rest rest' out old : List X) (count : ℕ) (x : X) → rest ≡ x ∷ rest' → length items ≤ length old → IsFilling items rest count out old → IsFilling items rest' (count + 1) (slice_set out count x) old
-filling_one items rest rest' out old count x e room f =
-    let lt = filling_room items rest rest' out old count x e room f in
-    let n = ap length e in
-    record {
-      front = ap (λ ys. ys ++ rest') (take_more_set out count x lt) ∙ append_assoc (take count out) (x ∷ []) rest' ∙ ap (λ ys. take count out ++ ys) (sym e) ∙ f.front;
-      back = λ m le. drop-set-lt m out count x (omega (arith, le)) ∙ f.back m (omega (arith, le));
-      len = length-set out count x ∙ f.len;
-      sum = omega (arith, n, f.sum);
-    }
-
--- all are written
-pub filling_all : {X : Type 0} (items rest out old : List X) (count : ℕ) → rest ≡ [] → IsFilling items rest count out old → (out ≡ with_front items old) × (count ≡ length items)
-filling_all items rest out old count e f =
-    let m = ap length e in
-    let n : count ≡ length items = omega (arith, m, f.sum) in
-    let all : take count out ≡ items = sym (append-nil (take count out)) ∙ ap (λ ys. take count out ++ ys) (sym e) ∙ f.front in
-    (sym (take-append-drop count out) ∙ ap (λ ys. ys ++ drop count out) all ∙ ap (λ ys. items ++ ys) (f.back count (omega arith)) ∙ ap (λ k. items ++ drop k old) n, n)
-
 -- what is left is of a set
 abbrev pub AreOf : PartitionSet → List ℕ → Type 0
 AreOf s rest = (q : ℕ) → is_listed q rest ≡ true → is_in s q ≡ true

@@ -80,7 +80,3 @@ disjoint_in ms owners are =
     let rows : SetRows = rows_in ms owners in
     disjoint_of (set_of rows) 1 ms (rises 1 ms (λ i lt. let h : 0 < get_or ms i 0 = rising_first 0 ms are i lt in omega (arith, h)) (rising ms are))
     (λ a b q e h. sym (owner_found (length owners) owners ms a q e) ∙ owner_found (length owners) owners ms b q h)
-
-pub partitions_withheld : (target granted : SetRows) → (withheld target granted).partitions ≡ target.partitions
-unfolding withheld
-partitions_withheld target granted = refl

@@ -38,33 +38,9 @@ ends f l n (x ∷ rest) e = go (suc n == x.0)
     go true = rw e refl
     go false = rw e refl
 
-pub number_begins : (old : List ℕ) (n : ℕ) → IsNextRun old old None n (Some (n, n))
-number_begins old n ns = refl
-
-pub number_joins : (old : List ℕ) (f l n : ℕ) → (suc l == n) ≡ true → IsNextRun old old (Some (f, l)) n (Some (f, n))
-number_joins old f l n next ns = ap (λ runs. old ++ each_after SPACE (map range_text runs)) (sym (joins f l n (ranges ns) next))
-
-pub number_ends : (old new : List ℕ) (f l n : ℕ) → (suc l == n) ≡ false → new ≡ old ++ SPACE ∷ range_text (f, l) → IsNextRun old new (Some (f, l)) n (Some (n, n))
-number_ends old new f l n other written ns =
-    ap (λ text. text ++ run_texts (Some (n, n)) ns) written
-    ∙ append_assoc old (SPACE ∷ range_text (f, l)) (run_texts (Some (n, n)) ns)
-    ∙ ap (λ runs. old ++ each_after SPACE (map range_text runs)) (sym (ends f l n (ranges ns) other))
-
 -- ---- numbers among others
 among_taken : (from to n : ℕ) (ns : List ℕ) → (nat_le from n && nat_lt n to) ≡ true → numbers_among from to (n ∷ ns) ≡ (n - from) ∷ numbers_among from to ns
 among_taken from to n ns e = ap (λ b. map (λ k. k - from) (cond b (n ∷ filter (λ k. nat_le from k && nat_lt k to) ns) (filter (λ k. nat_le from k && nat_lt k to) ns))) e
-
-pub among_left : (from to n : ℕ) (ns : List ℕ) → (nat_le from n && nat_lt n to) ≡ false → numbers_among from to (n ∷ ns) ≡ numbers_among from to ns
-among_left from to n ns e = ap (λ b. map (λ k. k - from) (cond b (n ∷ filter (λ k. nat_le from k && nat_lt k to) ns) (filter (λ k. nat_le from k && nat_lt k to) ns))) e
-
-pub some_among : (from to n : ℕ) (ns : List ℕ) → (nat_le from n && nat_lt n to) ≡ true → numbers_among from to (n ∷ ns) ≢ []
-some_among from to n ns e none = let no : ⊥ = cc (sym (among_taken from to n ns e) ∙ none) in no
-
-pub element_taken : (from to : ℕ) (old new : List ℕ) (range next : Option (ℕ × ℕ)) (n : ℕ) → (nat_le from n && nat_lt n to) ≡ true → IsNextRun old new range (n - from) next → IsNextAmong from to old new range n next
-element_taken from to old new range next n within run ns = run (numbers_among from to ns) ∙ ap (λ ms. old ++ run_texts range ms) (sym (among_taken from to n ns within))
-
-pub element_left : (from to : ℕ) (old : List ℕ) (range : Option (ℕ × ℕ)) (n : ℕ) → (nat_le from n && nat_lt n to) ≡ false → IsNextAmong from to old old range n range
-element_left from to old range n outside ns = ap (λ ms. old ++ run_texts range ms) (sym (among_left from to n ns outside))
 
 all_among : (to : ℕ) (ns : List ℕ) → AreBelow to ns → numbers_among 0 to ns ≡ ns
 all_among to [] below = refl

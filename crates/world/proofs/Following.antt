@@ -232,11 +232,6 @@ chain_stops {S = S} k s mid first next a result why made f err same = subst (λ 
 pub goes_further : {O : Type 0} {S : O → List Seen → O → Type 0} (k : Watch S) (s mid far : Scene O) (c rest more : Course) → Continues S s c mid rest → Continues S mid rest far more → Continues S s c far more
 goes_further k s mid far c rest more one two result s2 f = one result s2 (two result s2 f)
 
--- a call whose mismatch is forgiven
-pub forgives : {O : Type 0} {S : O → List Seen → O → Type 0} (k : Watch S) (s s2 : Scene O) (c : Course) (result : Result (Unit {0}) Refusal) → Follow S s c result s2 → Follow S s (forgiven c) (unless_mismatch result) s2
-forgives k s s2 c result (inl replied) = inl (ap unless_mismatch replied.0, replied.1, replied.2)
-forgives k s s2 c result (inr way) = inr (ap unless_mismatch way.0, record { came = way.1.came; left = way.1.left; events_are = way.1.events_are; world_is = way.1.world_is })
-
 pub same_scene : {O : Type 0} (S : O → List Seen → O → Type 0) (s : Scene O) (c : Course) (rest : WorldState → Course) {x y : WorldState} {o p : O} → x ≡ y → o ≡ p → Continues S s c (y, p) (rest y) → Continues S s c (x, o) (rest x)
 same_scene S s c rest {x = x} {y = y} {o = o} {p = p} same_world same_observer f =
     subst (λ z. Continues S s c (z, o) (rest z)) (sym same_world) (subst (λ q. Continues S s c (y, q) (rest y)) (sym same_observer) f)
