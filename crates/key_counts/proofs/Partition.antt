@@ -32,21 +32,6 @@ sum-split n (suc m) f =
     let rest = sum-split n m f in
     rw next (omega (arith, rest))
 
--- a function that is more by d at one number
-sum-more : (n p d : ℕ) (f g : ℕ → ℕ) → p < n → ((q : ℕ) → q ≢ p → g q ≡ f q) → g p ≡ f p + d → sum_below n g ≡ sum_below n f + d
-sum-more zero p d f g lt others here = absurd (omega (arith, lt))
-sum-more (suc n) p d f g lt others here =
-    elim (cases_eq p n) [
-      | inl e ↦
-          let below : sum_below n g ≡ sum_below n f = sum-same n g f (λ q q_in. others q (λ is. omega (arith, is, e, q_in))) in
-          let last : g n ≡ f n + d = subst (λ q. g q ≡ f q + d) e here in
-          omega (arith, below, last)
-      | inr ne ↦
-          let below = sum-more n p d f g (omega (arith, lt, ne)) others here in
-          let last = others n (λ is. ne (sym is)) in
-          omega (arith, below, last)
-    ]
-
 -- ---- segments one by one
 pub all-none : (lens : List ℕ) → All (λ n. n ≡ 0) lens → AreAll lens []
 all-none lens none = λ f.

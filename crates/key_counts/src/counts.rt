@@ -4,11 +4,10 @@ ghost use Rattle.std.specs.Prelude.{◌≡◌, ◌<◌, ◌≤◌, ◌+◌, ◌^
 ghost use Rattle.key_index.specs.Keys.{key_at};
 ghost use Rattle.key_counts.specs.Counts.{Takes, no_entries};
 ghost use Rattle.key_counts.specs.Private.Codes.{with_code};
-ghost use Rattle.key_index.specs.Private.StoredKey.{bytes_of};
 
 use crate::slots::Slots;
 use crate::waiting::WaitingKey;
-use key_index::{KeyHash, LONGEST_INLINE, ShortKey, StoredKey};
+use key_index::{KeyHash, KeyWords, LONGEST_INLINE, StoredKey};
 use lane_words::Memory;
 use std::alloc::Global;
 use std::hash::RandomState;
@@ -27,6 +26,8 @@ pub struct KeyCounts {
     keys: Vec<StoredKey>,
     /// How many records each entry took.
     counts: Vec<u64>,
+    /// No key is longer.
+    longest: usize,
     /// Whether the code of each record's entry is kept.
     coded: bool,
     /// If so, these codes, in the order of the records.
@@ -34,7 +35,7 @@ pub struct KeyCounts {
 }
 
 impl Model for KeyCounts {
-    ghost use Rattle.std.specs.Prelude.{◌≡◌, ◌<◌, ◌^◌, All, length};
+    ghost use Rattle.std.specs.Prelude.{◌≡◌, ◌<◌, ◌≤◌, ◌^◌, All, length};
     ghost use Rattle.key_counts.specs.Counts.{Entries};
 
     ghost Value = { Entries };
@@ -48,22 +49,26 @@ impl Model for KeyCounts {
 
     ghost invariant = { λ s. (length s.counts.items ≡ length s.keys.items)
         × All (λ code. code < length s.keys.items) s.codes.items
-        × (length s.keys.items < 2 ^ 32) };
+        × (length s.keys.items < 2 ^ 32)
+        × All (λ key. length key ≤ s.longest) s.keys.items };
 }
 
-/// 32 bits of a key's hash.
+/// 32 bits of a key's hash, mixed by a bijection: of keys that count up, a sum of products alone
+/// puts many next to each other.
 #[inline(always)]
 fn half_of(hash: u64) -> u32 {
-    (hash / 2 % (1 << 32)) as u32
+    let half = (hash / 2 % (1 << 32)) as u32;
+    let mixed = (half ^ half >> 16).wrapping_mul(0x85eb_ca6b);
+    mixed ^ mixed >> 15
 }
 
 /// Whether the entry of this code has this short key.
 #[inline(always)]
-fn is_copy_of(keys: &[StoredKey], code: usize, key: &ShortKey) -> bool
-    ensures { result ≡ true → (code < length keys.now) × (key_at keys.now code ≡ bytes_of key.now) }
+fn is_copy_of(keys: &[StoredKey], code: usize, key: &KeyWords) -> bool
+    ensures { result ≡ true → (code < length keys.now) × (key_at keys.now code ≡ key.now) }
 {
     match keys.get(code) {
-        Some(stored) => stored.is_copy(key),
+        Some(stored) => stored.is_words(key),
         None => false,
     }
 }
@@ -80,9 +85,9 @@ fn is_key_of(keys: &[StoredKey], code: usize, key: &[u8]) -> bool
 
 /// The code of an entry that has this short key, if the slots lead to one.
 #[inline(always)]
-fn find_short(slots: &Slots, keys: &[StoredKey], hash: u32, key: &ShortKey) -> Option<usize>
+fn find_short(slots: &Slots, keys: &[StoredKey], hash: u32, key: &KeyWords) -> Option<usize>
     ensures { IfSome result
-        (λ code. (code < length keys.now) × (key_at keys.now code ≡ bytes_of key.now)) }
+        (λ code. (code < length keys.now) × (key_at keys.now code ≡ key.now)) }
 {
     let mut index = hash as usize;
     for _ in 0..slots.len() {
@@ -171,6 +176,7 @@ impl KeyCounts {
             slots: Slots::new(alloc)?,
             keys: Vec::new(alloc),
             counts: Vec::new(alloc),
+            longest: 0,
             coded,
             codes: Vec::new(alloc),
         })
@@ -200,6 +206,7 @@ impl KeyCounts {
             hasher,
             keys,
             counts,
+            longest,
             coded,
             codes,
             ..
@@ -210,9 +217,17 @@ impl KeyCounts {
             slots: Slots::none(alloc),
             keys,
             counts,
+            longest,
             coded,
             codes,
         }
+    }
+
+    /// A length that no key exceeds.
+    pub fn longest(&self) -> usize
+        ensures { All (λ key. length key ≤ result) self.now.keys }
+    {
+        self.longest
     }
 
     /// How many records each entry took, by code.
@@ -251,6 +266,7 @@ impl KeyCounts {
         if code >= u32::MAX as usize {
             return Err(Memory);
         }
+        self.longest = self.longest.max(key.as_slice().len());
         self.slots.insert(self.alloc, hash, code as u32)?;
         push_entry(&mut self.keys, &mut self.counts, key)?;
         keep_code(&mut self.codes, self.coded, code)
@@ -262,15 +278,15 @@ impl KeyCounts {
         requires { length key.now ≤ LONGEST_INLINE }
         ensures { result ≡ key.now }
     {
-        let copy = ShortKey::of(key);
-        let hash = half_of(self.hasher.hash_of_copy(&copy));
-        WaitingKey::new(copy, hash)
+        let words = KeyWords::of(key);
+        let hash = self.hasher.hash_of_words(&words);
+        WaitingKey::new(words, hash)
     }
 
     /// The code of the entry that most likely has a key of this hash.
     #[inline(always)]
-    pub(crate) fn likely_code(&self, hash: u32) -> u32 {
-        self.slots.likely_code(hash)
+    pub(crate) fn likely_code(&self, hash: u64) -> u32 {
+        self.slots.likely_code(half_of(hash))
     }
 
     /// Takes a record of this short key, whose hash is prepared. Most likely the entry of this code
@@ -278,29 +294,27 @@ impl KeyCounts {
     #[inline(always)]
     pub(crate) fn take_short(
         &mut self,
-        hash: u32,
+        hash: u64,
         likely: u32,
-        key: &ShortKey,
+        key: &KeyWords,
     ) -> Result<(), Memory>
-        requires { key.now.size ≤ LONGEST_INLINE }
-        ensures { OnOk result (Takes self.old self.new (bytes_of key.now ∷ [])) }
+        ensures { OnOk result (Takes self.old self.new (key.now ∷ [])) }
     {
         let code = likely as usize;
         if is_copy_of(self.keys.as_slice(), code, key) {
             return self.count_one(code);
         }
-        self.seek_short(hash, key)
+        self.seek_short(half_of(hash), key)
     }
 
     /// Takes a record of this short key, whose hash is prepared.
     #[inline(never)]
-    fn seek_short(&mut self, hash: u32, key: &ShortKey) -> Result<(), Memory>
-        requires { key.now.size ≤ LONGEST_INLINE }
-        ensures { OnOk result (Takes self.old self.new (bytes_of key.now ∷ [])) }
+    fn seek_short(&mut self, hash: u32, key: &KeyWords) -> Result<(), Memory>
+        ensures { OnOk result (Takes self.old self.new (key.now ∷ [])) }
     {
         match find_short(&self.slots, self.keys.as_slice(), hash, key) {
             Some(code) => self.count_one(code),
-            None => self.add(hash, StoredKey::short(key)),
+            None => self.add(hash, StoredKey::of_words(key)),
         }
     }
 

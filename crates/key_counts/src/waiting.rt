@@ -1,11 +1,10 @@
 //! Short keys that wait to be looked up together.
 
-ghost use Rattle.std.specs.Prelude.{◌≡◌, ◌≤◌, ◌∷◌, [], OnOk};
+ghost use Rattle.std.specs.Prelude.{◌≡◌, ◌∷◌, [], OnOk};
 ghost use Rattle.key_counts.specs.Counts.{Takes};
-ghost use Rattle.key_index.specs.Private.StoredKey.{bytes_of};
 
 use crate::counts::KeyCounts;
-use key_index::{LONGEST_INLINE, ShortKey};
+use key_index::KeyWords;
 use lane_words::Memory;
 use std::marker::Model;
 
@@ -16,29 +15,24 @@ pub const MOST_WAITING: usize = 32;
 #[derive(Debug, Drop)]
 pub struct WaitingKey {
     /// The key.
-    key: ShortKey,
-    /// 32 bits of its hash.
-    hash: u32,
+    key: KeyWords,
+    /// Its hash.
+    hash: u64,
 }
 
 impl Model for WaitingKey {
-    ghost use Rattle.std.specs.Prelude.{◌≤◌, ℕ, List};
-    ghost use Rattle.key_index.specs.Private.StoredKey.{bytes_of};
-    ghost use Rattle.key_index.specs.declared.stored_key.TheConstants.{LONGEST_INLINE};
+    ghost use Rattle.std.specs.Prelude.{ℕ, List};
 
     ghost Value = { List ℕ };
 
-    ghost view = { λ s. bytes_of s.key };
-
-    ghost invariant = { λ s. s.key.size ≤ LONGEST_INLINE };
+    ghost view = { λ s. s.key };
 }
 
 impl WaitingKey {
-    /// A key and 32 bits of its hash.
+    /// A key and its hash.
     #[inline(always)]
-    pub fn new(key: ShortKey, hash: u32) -> WaitingKey
-        requires { key.size ≤ LONGEST_INLINE }
-        ensures { result ≡ bytes_of key }
+    pub fn new(key: KeyWords, hash: u64) -> WaitingKey
+        ensures { result ≡ key }
     {
         WaitingKey { key, hash }
     }

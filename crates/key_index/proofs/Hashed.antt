@@ -1,9 +1,10 @@
--- The seeds, one by one, and the hash of a short key, word by word.
-use Rattle.std.proofs.Common.{ℕ, ◌≡◌, ◌+◌, ◌*◌, ◌<◌, ◌≤◌, ◌∙◌, List, [], ◌∷◌, ap, arith, drop, get_or, get_or-set_other, get_or-set_same, inl, inr, length, refl, sym, zero, suc}
+-- The seeds, one by one, and the sum of a short key with zeros behind it.
+use Rattle.std.proofs.Common.{ℕ, ◌≡◌, ◌+◌, ◌-◌, ◌*◌, ◌%◌, ◌^◌, ◌<◌, ◌∙◌, List, [], ◌∷◌, ◌++◌, ap, arith, get_or, get_or-set_other, get_or-set_same, inl, inr, length, refl, sym, zero, suc}
+use Rattle.std.specs.Int.{to_le_bytes, w64}
 use Rattle.std.specs.Prelude.{slice_set}
 use Rattle.std.proofs.lemmas.Bool.{cases_eq}
-use Rattle.std.proofs.Math.Seq.{drop-cons}
-use Rattle.key_index.specs.Private.KeyHash.{with_product, with_products, word_from}
+use Rattle.key_index.specs.Private.KeyHash.{with_product, with_products, word_of}
+use Rattle.key_index.specs.Private.KeyWords.{all_bytes, zeros}
 
 pub seed-more : (f : ℕ → ℕ) (seeds : List ℕ) (i seed : ℕ) → i < length seeds → seed ≡ f i → ((k : ℕ) → k < i → get_or seeds k 0 ≡ f k) → (k : ℕ) → k < i + 1 → get_or (slice_set seeds i seed) k 0 ≡ f k
 seed-more f seeds i seed lt is so = λ k below.
@@ -12,36 +13,46 @@ seed-more f seeds i seed lt is so = λ k below.
       | inr other ↦ get_or-set_other seeds i k seed 0 other ∙ so k (omega (arith, below, other))
     ]
 
-one_more_word : (key : List ℕ) (sum seed : ℕ) (seeds : List ℕ) (at : ℕ) → at + 4 ≤ length key → with_products sum (seed ∷ seeds) (drop at key) ≡ with_products (with_product sum seed (word_from key at)) seeds (drop (at + 4) key)
-one_more_word (a ∷ b ∷ c ∷ d ∷ rest) sum seed seeds zero le = refl
-one_more_word (x ∷ key) sum seed seeds (suc at) le =
-    let four : suc at + 4 ≡ suc (at + 4) = omega arith in
-    let one : suc at + 1 ≡ suc (at + 1) = omega arith in
-    let two : suc at + 2 ≡ suc (at + 2) = omega arith in
-    let three : suc at + 3 ≡ suc (at + 3) = omega arith in
-    rw (four, one, two, three) (one_more_word key sum seed seeds at (omega arith))
-one_more_word [] sum seed seeds at le = absurd (omega arith)
-one_more_word (a ∷ []) sum seed seeds zero le = absurd (omega arith)
-one_more_word (a ∷ b ∷ []) sum seed seeds zero le = absurd (omega arith)
-one_more_word (a ∷ b ∷ c ∷ []) sum seed seeds zero le = absurd (omega arith)
+six-words : (seeds : List ℕ) (sum first second third : ℕ) → length seeds ≡ 8
+    → with_products (with_products (with_products sum (get_or seeds 0 0 ∷ get_or seeds 1 0 ∷ []) (to_le_bytes w64 first)) (get_or seeds 2 0 ∷ get_or seeds 3 0 ∷ []) (to_le_bytes w64 second)) (get_or seeds 4 0 ∷ get_or seeds 5 0 ∷ []) (to_le_bytes w64 third)
+    ≡ with_products sum seeds (all_bytes first second third)
+six-words (a ∷ b ∷ c ∷ d ∷ e ∷ f ∷ seeds) sum first second third long = refl
+six-words [] sum first second third long = absurd (omega arith)
+six-words (a ∷ []) sum first second third long = absurd (omega arith)
+six-words (a ∷ b ∷ []) sum first second third long = absurd (omega arith)
+six-words (a ∷ b ∷ c ∷ []) sum first second third long = absurd (omega arith)
+six-words (a ∷ b ∷ c ∷ d ∷ []) sum first second third long = absurd (omega arith)
+six-words (a ∷ b ∷ c ∷ d ∷ e ∷ []) sum first second third long = absurd (omega arith)
 
-pub next-product : (key seeds : List ℕ) (sum i : ℕ) → i < length seeds → 4 * i + 4 ≤ length key
-    → with_products sum (drop i seeds) (drop (4 * i) key) ≡ with_products (with_product sum (get_or seeds i 0) (word_from key (4 * i))) (drop (i + 1) seeds) (drop (4 * (i + 1)) key)
-next-product key seeds sum i lt le =
-    let next : suc i ≡ i + 1 = omega arith in
-    let four : 4 * i + 4 ≡ 4 * (i + 1) = omega arith in
-    ap (λ ss. with_products sum ss (drop (4 * i) key)) (drop-cons seeds i 0 lt)
-    ∙ one_more_word key sum (get_or seeds i 0) (drop (suc i) seeds) (4 * i) le
-    ∙ ap (λ n. with_products (with_product sum (get_or seeds i 0) (word_from key (4 * i))) (drop n seeds) (drop (4 * i + 4) key)) next
-    ∙ ap (λ n. with_products (with_product sum (get_or seeds i 0) (word_from key (4 * i))) (drop (i + 1) seeds) (drop n key)) four
+without : (sum seed n : ℕ) → sum < 2 ^ 64 → n ≡ 0 → with_product sum seed n ≡ sum
+without sum seed n lt is =
+    let none : seed * n ≡ 0 = ap (λ m. seed * m) is ∙ omega arith in
+    ap (λ m. (sum + m % 2 ^ 64) % 2 ^ 64) none ∙ omega (arith, lt)
 
-of_rest : (sum seed : ℕ) (seeds rest : List ℕ) → length rest < 4 → with_products sum (seed ∷ []) rest ≡ with_products sum (seed ∷ seeds) rest
-of_rest sum seed seeds [] lt = refl
-of_rest sum seed seeds (a ∷ []) lt = refl
-of_rest sum seed seeds (a ∷ b ∷ []) lt = refl
-of_rest sum seed seeds (a ∷ b ∷ c ∷ []) lt = refl
-of_rest sum seed seeds (a ∷ b ∷ c ∷ d ∷ rest) lt = absurd (omega arith)
+no-words : (sum : ℕ) (seeds : List ℕ) (n : ℕ) → sum < 2 ^ 64 → with_products sum seeds (zeros n) ≡ sum
+no-words sum seeds zero lt = refl
+no-words sum [] (suc n) lt = refl
+no-words sum (seed ∷ seeds) (suc zero) lt = without sum seed _ lt refl
+no-words sum (seed ∷ seeds) (suc (suc zero)) lt = without sum seed _ lt refl
+no-words sum (seed ∷ seeds) (suc (suc (suc zero))) lt = without sum seed _ lt refl
+no-words sum (seed ∷ seeds) (suc (suc (suc (suc n)))) lt = ap (λ s. with_products s seeds (zeros n)) (without sum seed _ lt refl) ∙ no-words sum seeds n lt
 
-pub last-product : (sum i : ℕ) (seeds rest : List ℕ) → i < length seeds → length rest < 4 → with_products sum (get_or seeds i 0 ∷ []) rest ≡ with_products sum (drop i seeds) rest
-last-product sum i seeds rest lt few =
-    of_rest sum (get_or seeds i 0) (drop (suc i) seeds) rest few ∙ sym (ap (λ ss. with_products sum ss rest) (drop-cons seeds i 0 lt))
+no-more : (sum : ℕ) (seeds key : List ℕ) (n : ℕ) → sum < 2 ^ 64 → with_products sum seeds (key ++ zeros n) ≡ with_products sum seeds key
+no-more sum seeds [] n lt = no-words sum seeds n lt
+no-more sum [] (a ∷ key) n lt = refl
+no-more sum (seed ∷ seeds) (a ∷ b ∷ c ∷ d ∷ key) n lt = no-more (with_product sum seed (word_of a b c d)) seeds key n (omega arith)
+no-more sum (seed ∷ seeds) (a ∷ []) zero lt = refl
+no-more sum (seed ∷ seeds) (a ∷ []) (suc zero) lt = ap (with_product sum seed) (omega arith)
+no-more sum (seed ∷ seeds) (a ∷ []) (suc (suc zero)) lt = ap (with_product sum seed) (omega arith)
+no-more sum (seed ∷ seeds) (a ∷ []) (suc (suc (suc n))) lt = no-words (with_product sum seed (word_of a 0 0 0)) seeds n (omega arith) ∙ ap (with_product sum seed) (omega arith)
+no-more sum (seed ∷ seeds) (a ∷ b ∷ []) zero lt = refl
+no-more sum (seed ∷ seeds) (a ∷ b ∷ []) (suc zero) lt = ap (with_product sum seed) (omega arith)
+no-more sum (seed ∷ seeds) (a ∷ b ∷ []) (suc (suc n)) lt = no-words (with_product sum seed (word_of a b 0 0)) seeds n (omega arith) ∙ ap (with_product sum seed) (omega arith)
+no-more sum (seed ∷ seeds) (a ∷ b ∷ c ∷ []) zero lt = refl
+no-more sum (seed ∷ seeds) (a ∷ b ∷ c ∷ []) (suc n) lt = no-words (with_product sum seed (word_of a b c 0)) seeds n (omega arith) ∙ ap (with_product sum seed) (omega arith)
+
+pub sum-of-words : (seeds key : List ℕ) (sum first second third : ℕ) → sum < 2 ^ 64 → length seeds ≡ 8 → all_bytes first second third ≡ key ++ zeros (24 - length key)
+    → with_products (with_products (with_products sum (get_or seeds 0 0 ∷ get_or seeds 1 0 ∷ []) (to_le_bytes w64 first)) (get_or seeds 2 0 ∷ get_or seeds 3 0 ∷ []) (to_le_bytes w64 second)) (get_or seeds 4 0 ∷ get_or seeds 5 0 ∷ []) (to_le_bytes w64 third)
+    ≡ with_products sum seeds key
+sum-of-words seeds key sum first second third lt long is =
+    six-words seeds sum first second third long ∙ ap (with_products sum seeds) is ∙ no-more sum seeds key (24 - length key) lt

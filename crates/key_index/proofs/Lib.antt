@@ -4,13 +4,14 @@ pub mod Filtered
 pub mod Firsts
 pub mod Gathered
 pub mod Growth
+pub mod Halves
 pub mod Hashed
 pub mod InShards
 pub mod Concatenated
 pub mod Numbers
 pub mod Ordered
+pub mod Padded
 pub mod ReadBack
 pub mod ShardRecords
 pub mod Assigned
 pub mod Whole
-pub mod Words

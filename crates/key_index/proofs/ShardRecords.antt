@@ -131,7 +131,3 @@ lent-key keys i d lt = get_or-map (λ (key : Bor (List ℕ)). key.now) keys i d 
 
 pub lent-long : (keys : List (Bor (List ℕ))) → length (lent keys) ≡ length keys
 lent-long keys = length-map keys (λ (key : Bor (List ℕ)). key.now)
-
-pub lent-mapped : (of_key : Key → ℕ) (keys : List (Bor (List ℕ))) → map (λ (key : Bor (List ℕ)). of_key key.now) keys ≡ map of_key (lent keys)
-lent-mapped of_key [] = refl
-lent-mapped of_key (key ∷ keys) = ap (λ ps. of_key key.now ∷ ps) (lent-mapped of_key keys)

@@ -1,4 +1,5 @@
 pub mod ScatteredKey
 pub mod KeyHash
+pub mod KeyWords
 pub mod Sharded
 pub mod StoredKey

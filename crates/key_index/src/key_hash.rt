@@ -2,10 +2,12 @@
 
 ghost use Rattle.std.specs.Prelude.{◌≡◌, ◌≤◌, ◌<◌, ◌+◌, ◌/◌, ◌^◌, ◌∷◌, [], bit_xor, length};
 ghost use Rattle.std.specs.Hash.DefaultHasher.{finish, write};
+ghost use Rattle.std.specs.Int.{to_le_bytes, w64};
 ghost use Rattle.std.specs.RandomState.{initial_hasher};
 ghost use Rattle.key_index.specs.Private.KeyHash.{IsDrawn, hash_of, sum_of, with_product, with_products, word_from};
 
-use crate::stored_key::{LONGEST_INLINE, ShortKey};
+use crate::key_words::KeyWords;
+use crate::stored_key::LONGEST_INLINE;
 use std::fmt;
 use std::fmt::{Debug, Formatter};
 use std::hash::{BuildHasher, Hasher, RandomState};
@@ -43,15 +45,6 @@ pub struct KeyHasher {
     hash: u64,
 }
 
-/// The four bytes of a key from an index on, as a little-endian word.
-#[inline(always)]
-fn word_at(key: &[u8], at: usize) -> u32
-    requires { at + 4 ≤ length key.now }
-    ensures { result ≡ word_from key.now at }
-{
-    u32::from_le_bytes([key[at], key[at + 1], key[at + 2], key[at + 3]])
-}
-
 /// A sum plus one more product.
 #[inline(always)]
 fn with_product(sum: u64, seed: u64, word: u32) -> u64
@@ -60,34 +53,27 @@ fn with_product(sum: u64, seed: u64, word: u32) -> u64
     sum.wrapping_add(seed.wrapping_mul(u64::from(word)))
 }
 
-/// A sum plus the product of the last bytes, which do not fill a word.
+/// A sum plus the products of both halves of a word.
 #[inline(always)]
-fn with_rest(sum: u64, seed: u64, rest: &[u8]) -> u64
-    requires { length rest.now < 4 }
-    ensures { result ≡ with_products sum (seed ∷ []) rest.now }
+fn with_both(sum: u64, even: u64, odd: u64, word: u64) -> u64
+    ensures { result ≡ with_products sum (even ∷ odd ∷ []) (to_le_bytes w64 word) }
 {
-    let word = match *rest {
-        [a, b, c] => u32::from(a) | u32::from(b) << 8 | u32::from(c) << 16,
-        [a, b] => u32::from(a) | u32::from(b) << 8,
-        [a] => u32::from(a),
-        _ => return sum,
-    };
-    with_product(sum, seed, word)
+    let low = (word % (1 << 32)) as u32;
+    let high = (word >> 32) as u32;
+    with_product(with_product(sum, even, low), odd, high)
 }
 
-/// The sum of all products of a text that begins with a short key of this length.
+/// The sum of all products of a short key, from its words.
 #[inline(always)]
-#[tactic(auto, unfolding(crate::specs::Private::KeyHash::sum_of))]
-fn sum_of(seeds: &[u64; SEEDS], text: &[u8], len: u32) -> u64
-    requires { length text.now ≤ LONGEST_INLINE }
-    ensures { result ≡ sum_of seeds.now text.now len }
+fn sum_of(seeds: &[u64; SEEDS], key: &KeyWords) -> u64
+    ensures value { result ≡ sum_of seeds.now key.now (length key.now) }
+    ensures short { length key.now ≤ LONGEST_INLINE }
 {
-    let words = text.len() / 4;
-    let mut sum = with_product(seeds[ADDED], seeds[OF_LENGTH], len);
-    for i in 0..words {
-        sum = with_product(sum, seeds[i], word_at(text, 4 * i));
-    }
-    with_rest(sum, seeds[words], &text[4 * words..])
+    let (first, second, third) = key.words();
+    let sum = with_product(seeds[ADDED], seeds[OF_LENGTH], u32::from(key.len()));
+    let sum = with_both(sum, seeds[0], seeds[1], first);
+    let sum = with_both(sum, seeds[2], seeds[3], second);
+    with_both(sum, seeds[4], seeds[5], third)
 }
 
 /// The hash of a long key.
@@ -121,19 +107,19 @@ impl KeyHash {
         ensures { result ≡ hash_of self.now key.now }
     {
         if key.len() <= LONGEST_INLINE {
-            sum_of(&self.seeds, key, key.len() as u32) >> 31
+            self.hash_of_words(&KeyWords::of(key))
         } else {
             sip_hash_of(self.long, key)
         }
     }
 
-    /// The hash of a short key, from all bytes of its copy. It is another than `hash_of` only if
-    /// they are not zeros behind the key.
+    /// The hash of a short key, from its words.
     #[inline(always)]
-    pub fn hash_of_copy(&self, key: &ShortKey) -> u64
-        ensures { result ≡ sum_of self.now.seeds key.now.bytes key.now.size / 2 ^ 31 }
+    #[tactic(auto, unfolding(crate::specs::Private::KeyHash::hash_of))]
+    pub fn hash_of_words(&self, key: &KeyWords) -> u64
+        ensures { result ≡ hash_of self.now key.now }
     {
-        sum_of(&self.seeds, key.bytes(), u32::from(key.size())) >> 31
+        sum_of(&self.seeds, key) >> 31
     }
 }
 

@@ -111,7 +111,7 @@ impl KeyMap {
     }
 
     /// Interns a short key: returns its number, a new one if the key is new.
-    pub fn intern_short(&mut self, key: &ShortKey) -> Result<u32, Memory>
+    pub(crate) fn intern_short(&mut self, key: &ShortKey) -> Result<u32, Memory>
         requires capacity { length self.old < MOST_RECORDS }
         requires size { key.now.size ≤ LONGEST_INLINE }
         ensures ok { IfOk result (λ n. (n ≡ id_of self.old (bytes_of key.now))

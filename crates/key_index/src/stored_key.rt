@@ -1,6 +1,5 @@
 //! A key as the key map stores it.
 
-ghost use Rattle.std.specs.Int.{to_le_bytes, w64};
 ghost use Rattle.std.specs.Prelude.{◌≡◌, ◌≤◌, ◌+◌, length, Some, IfSome, slice_range, true, vec_capacity};
 ghost use Rattle.std.proofs.Common.{rules};
 ghost use Rattle.std.specs.Cmp as compare;
@@ -9,6 +8,7 @@ ghost use Rattle.std.specs.Cmp.Rules.{comparing, hashing};
 ghost use Rattle.std.specs.Str.{bytes_eq};
 ghost use Rattle.key_index.specs.Private.StoredKey.{IsCopyOf, bytes_of};
 
+use crate::key_words::KeyWords;
 use std::hash::{Hash, Hasher};
 use std::marker::Model;
 
@@ -36,41 +36,6 @@ pub struct ShortKey {
     size: u8,
 }
 
-/// Eight bytes of an array, from an index on, as a little-endian word.
-#[inline(always)]
-fn word_at(bytes: &[u8; LONGEST_INLINE], at: usize) -> u64
-    requires { at + 8 ≤ LONGEST_INLINE }
-    ensures { to_le_bytes w64 result ≡ slice_range bytes.now at (at + 8) }
-{
-    u64::from_le_bytes([
-        bytes[at],
-        bytes[at + 1],
-        bytes[at + 2],
-        bytes[at + 3],
-        bytes[at + 4],
-        bytes[at + 5],
-        bytes[at + 6],
-        bytes[at + 7],
-    ])
-}
-
-/// Whether two arrays have the same word from an index on.
-#[inline(always)]
-fn same_word(a: &[u8; LONGEST_INLINE], b: &[u8; LONGEST_INLINE], at: usize) -> bool
-    requires { at + 8 ≤ LONGEST_INLINE }
-    ensures { result ≡ true → slice_range a.now at (at + 8) ≡ slice_range b.now at (at + 8) }
-{
-    word_at(a, at) == word_at(b, at)
-}
-
-/// Whether two arrays have the same bytes: three words each, of which the last two overlap.
-#[inline(always)]
-fn same_bytes(a: &[u8; LONGEST_INLINE], b: &[u8; LONGEST_INLINE]) -> bool
-    ensures { result ≡ true → a.now ≡ b.now }
-{
-    same_word(a, b, 0) && same_word(a, b, 8) && same_word(a, b, 14)
-}
-
 impl ShortKey {
     /// A copy of a key.
     #[inline(always)]
@@ -78,29 +43,11 @@ impl ShortKey {
         requires { length key.now ≤ LONGEST_INLINE }
         ensures { IsCopyOf key.now result }
     {
-        let mut bytes = [0u8; LONGEST_INLINE];
-        bytes[..key.len()].copy_from_slice(key);
+        let words = KeyWords::of(key);
         ShortKey {
-            bytes,
-            size: key.len() as u8,
+            bytes: words.to_bytes(),
+            size: words.len(),
         }
-    }
-
-    /// The bytes of the key, and those behind it.
-    #[inline(always)]
-    pub(crate) fn bytes(&self) -> &[u8]
-        ensures value { result.now ≡ self.now.bytes }
-        ensures len { length result.now ≡ LONGEST_INLINE }
-    {
-        &self.bytes
-    }
-
-    /// The length of the key.
-    #[inline(always)]
-    pub(crate) fn size(&self) -> u8
-        ensures { result ≡ self.now.size }
-    {
-        self.size
     }
 }
 
@@ -124,7 +71,7 @@ impl Model for StoredKey {
 
 impl StoredKey {
     /// A short key. It allocates nothing.
-    pub fn short(key: &ShortKey) -> StoredKey
+    pub(crate) fn short(key: &ShortKey) -> StoredKey
         requires { key.now.size ≤ LONGEST_INLINE }
         ensures { result ≡ bytes_of key.now }
     {
@@ -145,14 +92,26 @@ impl StoredKey {
         }
     }
 
-    /// Whether it is this short key. The bytes behind the keys have to be the same, too, as they
-    /// are in copies of the same key.
+    /// A short key, from its words. It allocates nothing.
+    pub fn of_words(key: &KeyWords) -> StoredKey
+        ensures { result ≡ key.now }
+    {
+        StoredKey {
+            storage: Storage::Inline {
+                bytes: key.to_bytes(),
+                size: key.len(),
+            },
+        }
+    }
+
+    /// Whether it is this short key. The bytes behind it have to be zeros, as they are in a key that
+    /// was stored from its words.
     #[inline(always)]
-    pub fn is_copy(&self, key: &ShortKey) -> bool
-        ensures { result ≡ true → self.now ≡ bytes_of key.now }
+    pub fn is_words(&self, key: &KeyWords) -> bool
+        ensures { result ≡ true → self.now ≡ key.now }
     {
         match &self.storage {
-            Storage::Inline { bytes, size } => *size == key.size && same_bytes(bytes, &key.bytes),
+            Storage::Inline { bytes, size } => key.is_in(bytes, *size),
             Storage::Heap(_) => false,
         }
     }
