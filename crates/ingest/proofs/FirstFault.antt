@@ -93,10 +93,6 @@ faults-alone counts before (keyed ∷ records) few =
 pub first_fault-long : (counts : List ℕ) (records : List Keyed) → length records ≤ MOST_RECORDS → first_fault counts [] records ≡ long_fault (keys_in records)
 first_fault-long counts records few = faults-alone counts [] records (omega arith)
 
-any-records : (records : List Keyed) → list_any (λ keyed. is_too_long keyed.1) records ≡ list_any is_too_long (keys_in records)
-any-records [] = refl
-any-records (keyed ∷ records) = ap (λ b. is_too_long keyed.1 || b) (any-records records)
-
 -- ---- a test of the keys is one of the different keys
 or-true : (a b : Bool) → (b ≡ true → a ≡ true) → (a || b) ≡ a
 or-true true b h = refl

@@ -137,15 +137,3 @@ pub records-are : (keys : List (List ℕ)) (topics topic_items : List ℕ) (slic
     → zip topics (lent slices) ≡ map record_of keys
 records-are keys topics topic_items slices items ts these ss those =
     ap (λ xs. zip xs (lent slices)) (ts ∙ these) ∙ ap (zip (map topic_of keys)) (ap lent ss ∙ those) ∙ zipped-records keys
-
-topics-below : (n : ℕ) (keys : List (List ℕ)) → All (λ (k : Keyed). k.0 < n) (map record_of keys) → All (λ t. t < n) (map topic_of keys)
-topics-below n [] h = All-nil (λ t. t < n)
-topics-below n (key ∷ keys) h =
-    All-cons (λ t. t < n) (topic_of key) (map topic_of keys) (All-head (λ (k : Keyed). k.0 < n) (record_of key) (map record_of keys) h) (topics-below n keys (All-tail (λ (k : Keyed). k.0 < n) (record_of key) (map record_of keys) h))
-
-pub topics-are : (n : ℕ) (keys : List (List ℕ)) (topics topic_items : List ℕ) (slices items : List (Bor Key)) → All (λ (k : Keyed). k.0 < n) (map record_of keys) → topics ≡ topic_items → topic_items ≡ map topic_of keys → slices ≡ items
-    → map (λ key. key.now) items ≡ map key_behind keys → AreTopics n (length slices) topics
-topics-are n keys topics topic_items slices items h ts these ss those = record {
-  as_many = ap length (ts ∙ these) ∙ length-map keys topic_of ∙ sym (length-map keys key_behind) ∙ ap length (sym those) ∙ length-map items (λ (key : Bor Key). key.now) ∙ ap length (sym ss);
-  among = subst (All (λ t. t < n)) (sym (ts ∙ these)) (topics-below n keys h);
-}

@@ -1,5 +1,5 @@
 -- The limits on records that are counted and not kept.
-use Rattle.std.specs.Prelude.{◌≡◌, ◌<◌, ◌≤◌, ℕ, ◌==◌, All, Bool, true, false, List, [], ◌++◌, filter, length, if◌then◌else◌, nat_lt, Option, Some, None, slice_index}
+use Rattle.std.specs.Prelude.{◌≡◌, ◌<◌, ◌≤◌, ℕ, ◌==◌, All, Bool, List, [], ◌++◌, filter, length, if◌then◌else◌, nat_lt, Option, Some, None, slice_index}
 use Rattle.std.specs.List.{list_any, sum}
 use Rattle.lane_words.specs.declared.Refusal.{Refusal}
 use Rattle.lane_words.specs.declared.Refusal.TheVariants as r

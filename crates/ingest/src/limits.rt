@@ -116,6 +116,9 @@ fn has_long_key(key: &[u8], has_topics: bool) -> bool
 fn have_long_keys(worker: &KeyCounts, has_topics: bool) -> bool
     ensures { result ≡ have_long_keys has_topics worker.now.keys }
 {
+    if worker.longest() <= LONGEST_KEY {
+        return false;
+    }
     for code in 0..worker.len() {
         if has_long_key(worker.key(code), has_topics) {
             return true;
