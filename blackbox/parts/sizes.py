@@ -114,25 +114,27 @@ def peak_memory(process: int) -> int:
     return next(int(line.split()[1]) * 1024 for line in lines if line.startswith("VmHWM:"))
 
 
-def stream_faults(blocks: int) -> Iterator[str]:
-    """So many megabytes through a pipe, of records of 100 bytes: their counts, in memory that has nothing to do with how many
-    there are."""
-    block = b"".join(b"%04d,%s\n" % (n, b"z" * 94) for n in range(10_000))
+def stream_faults(blocks: int, records: int, length: int) -> Iterator[str]:
+    """So many blocks through a pipe, of so many records of this length: their counts, in memory that has nothing to do with how
+    many there are."""
+    keys = [b"%04d" % n for n in range(records)]
+    block = b"".join(b"%s,%s\n" % (key, b"z" * (length - 6)) for key in keys)
     most = (24 + 8 * (os.cpu_count() or 1)) * MIB
     with subprocess.Popen([program(), "count", "-"], stdin=subprocess.PIPE, stdout=subprocess.PIPE) as job:
         for _ in range(blocks):
             job.stdin.write(block)
         peak = peak_memory(job.pid)
         text, _ = job.communicate(timeout=120)
-    if text != counts([b"%04d" % n for n in range(10_000)]).replace(b",1\n", b",%d\n" % blocks).replace(
-            b"total,10000,10000", b"total,%d,%d" % (10_000 * blocks, 10_000 * blocks)):
+    total = blocks * records
+    if text != b"".join(b"count,%s,%d\n" % (key, blocks) for key in keys) + b"total,%d,%d\n" % (total, total):
         yield f"it prints {text[:300]!r} ({len(text)} bytes)"
     if peak > most:
         yield f"it takes {peak} bytes, and not at most {most}"
 
 
 def file_sizes() -> Cases:
-    yield "a count of 400 MB through a pipe", stream_faults(400)
+    yield "a count of 400 MB through a pipe", stream_faults(400, 10_000, 100)
+    yield "the same of records of 100,000 bytes", stream_faults(400, 10, 100_000)
     for power in range(5, 24):
         yield f"a file and an output of about {1 << power} bytes", size_faults(power)
     for size in (MIB, 2 * MIB, 4 * MIB, 8 * MIB):

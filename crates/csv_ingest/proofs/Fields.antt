@@ -14,7 +14,7 @@ use Rattle.csv.specs.declared.parser.State.{State}
 use Rattle.csv.specs.declared.parser.State.TheVariants as st
 use Rattle.csv_ingest.specs.KeyFile.{Record, after_keys, dialect, field_or_lack, key_in, keys_from}
 use Rattle.csv_ingest.specs.Pieces.{file_records, piece_keys, bom_length}
-use Rattle.csv_ingest.specs.Private.FieldEnds.{HasNoEnd, ends_field}
+use Rattle.csv_ingest.specs.Private.ByteSearch.{HasNone, ends_field}
 use Rattle.csv_ingest.specs.Private.Fields.{EndsField, IsLineEnd, IsRow, IsWhole, ReadsField, ReadsKey, ReadsRow, bytes_in, kept, key_of}
 use Rattle.csv_ingest.specs.Private.KeyFile.{IsFaultAt, TakesKey}
 use Rattle.csv_ingest.specs.Private.Walk.{walk}
@@ -175,7 +175,7 @@ bare-step delimiter text at i le lt d n r goes fields field =
     (append_assoc field (slice_range text at i) (get_or text i 0 ∷ []) ∙ ap (λ m. field ++ m) (sym (one-between text at i le lt)))
 
 -- bytes that end no field are more of the field at hand
-pub bare-run : (delimiter : ℕ) (text : List ℕ) (at n : ℕ) → at + n ≤ length text → HasNoEnd delimiter text at (at + n) → Goes delimiter st.InField st.InField text at (at + n) (slice_range text at (at + n))
+pub bare-run : (delimiter : ℕ) (text : List ℕ) (at n : ℕ) → at + n ≤ length text → HasNone delimiter 13 10 text at (at + n) → Goes delimiter st.InField st.InField text at (at + n) (slice_range text at (at + n))
 bare-run delimiter text at zero within none = λ fields field.
     let here : at + zero ≡ at = omega arith in
     ap (λ to. walk delimiter st.InField fields field (drop to text)) (sym here)

@@ -1,11 +1,11 @@
 pub mod Parts
 pub mod Cutting
-pub mod Ends
 pub mod Faults
 pub mod Fields
 pub mod Headers
 pub mod Joined
 pub mod Keys
+pub mod Marks
 pub mod Pieces
 pub mod Progress
 pub mod Rounds

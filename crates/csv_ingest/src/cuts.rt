@@ -104,21 +104,17 @@ pub fn cut_behind(before: &[u8], next: &[u8], delimiter: u8) -> Option<usize>
     open_cut(next, stand, delimiter)
 }
 
-/// A file in at most `pieces` pieces of about the same length; 0 are one.
+/// A file in at most `pieces` pieces; 0 are one. All but the last have about `step` bytes.
 pub fn pieces_of(
     alloc: Global,
     file: &[u8],
     delimiter: u8,
     pieces: usize,
+    step: usize,
 ) -> Result<Vec<&[u8]>, Memory>
     requires { is_line_end delimiter ≡ false }
     ensures { IfOk result (λ found. ArePieces delimiter file.now (lent found.items)) }
 {
-    let step = if pieces == 0 {
-        file.len()
-    } else {
-        file.len() / pieces
-    };
     let mut found = Vec::new(alloc);
     let mut rest = file;
     for _piece in 1..pieces {

@@ -15,9 +15,9 @@
 //! Tests: `log_tests`.
 #![tactic(auto)]
 
+mod byte_search;
 mod chunk;
 mod cuts;
-mod field_ends;
 mod header;
 mod lack;
 mod laws;

@@ -12,15 +12,14 @@ ghost use Rattle.csv_ingest.specs.Private.Wanted.{taking};
 ghost use Rattle.csv_ingest.specs.Sinks.{TakesFound};
 ghost use Rattle.lane_words.specs.declared.Refusal.TheVariants as refusal;
 
+use crate::byte_search::{field_end, find_quote};
 use crate::cuts::mark_length;
-use crate::field_ends::field_end;
 use crate::piece::take_piece;
 use crate::sink::KeySink;
 use crate::stand::is_line_end;
 use crate::wanted::Wanted;
 use crate::whole::take_file;
 use lane_words::{Memory, Refusal};
-use memchr::memchr;
 use std::alloc::Global;
 
 /// Whether there is this byte here.
@@ -82,7 +81,7 @@ fn read_quoted(
         key.old.items key.new.items) }
 {
     let mut at = start;
-    'quotes: while let Some(more) = memchr(b'"', &text[at..]) {
+    'quotes: while let Some(more) = find_quote(&text[at..]) {
         let quote = at + more;
         if !is_at(text, quote + 1, b'"') {
             keep(&text[at..quote], wanted, key)?;
@@ -216,6 +215,7 @@ impl<'t> Row<'t> {
 
     /// Takes the key of this record, which was read to its end, as that of record number nth, which
     /// has to be `width` fields long.
+    #[inline(always)]
     fn give_to<K: KeySink>(
         &self,
         keys: &mut K,

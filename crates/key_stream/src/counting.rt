@@ -2,6 +2,7 @@
 
 ghost use Rattle.std.specs.Prelude.{◌≡◌, ◌⊎◌, ◌≤◌, ◌<◌, ◌^◌, [], Bool, false, IfErr, IfOk, List, ℕ, OnOk, drop, length, replicate, vec_len};
 ghost use Rattle.csv_ingest.specs.KeyFile.{Taking};
+ghost use Rattle.csv_ingest.specs.Pieces.{ArePieces};
 ghost use Rattle.csv_ingest.specs.Stand.{is_line_end};
 ghost use Rattle.csv_ingest.specs.Private.Pieces.{bytes_of, lent};
 ghost use Rattle.csv_ingest.specs.Private.Wanted.{taking};
@@ -21,6 +22,9 @@ use lane_words::{Memory, Refusal};
 use std::alloc::Global;
 use std::hash::RandomState;
 use std::thread::Threads;
+
+/// About how many bytes of a window are left to the next one, if more of the file follows.
+const LEFT: usize = 1 << 16;
 
 /// What was counted of a file so far.
 #[derive(Drop)]
@@ -106,6 +110,32 @@ fn chunks_for(workers: usize, len: usize, least: usize) -> usize
     ensures value { len < least → result ≡ 1 }
 {
     workers.min(len / least.max(1)).max(1)
+}
+
+/// A text in so many chunks at most, of about the same length. If more of the file follows, one piece
+/// comes behind them: some `LEFT` bytes, or as many as a chunk if no record ends in these.
+fn pieces_in<'t>(
+    alloc: Global,
+    text: &'t [u8],
+    delimiter: u8,
+    chunks: usize,
+    at_end: bool,
+) -> Result<Vec<&'t [u8]>, Memory>
+    requires { is_line_end delimiter ≡ false }
+    ensures { IfOk result (λ found. ArePieces delimiter text.now (lent found.items)) }
+{
+    let most = chunks.saturating_add(usize::from(!at_end)).max(1);
+    let left = if at_end {
+        0
+    } else {
+        LEFT.min(text.len() / most)
+    };
+    let step = (text.len() - left) / chunks.max(1);
+    let pieces = pieces_of(alloc, text, delimiter, most, step)?;
+    if at_end || pieces.len() > 1 {
+        return Ok(pieces);
+    }
+    pieces_of(alloc, text, delimiter, most, text.len() / most)
 }
 
 impl Counting {
@@ -202,8 +232,8 @@ impl Counting {
     {
         let behind = usize::from(!at_end);
         let workers = self.workers.len();
-        let most = chunks_for(workers, text.len(), self.least).saturating_add(behind);
-        let pieces = pieces_of(alloc, text, delimiter, most)?;
+        let chunks = chunks_for(workers, text.len(), self.least);
+        let pieces = pieces_in(alloc, text, delimiter, chunks, at_end)?;
         let count = workers.min(pieces.len().saturating_sub(behind));
         let taken = length_of(&pieces[..count]);
         Ok(Split {

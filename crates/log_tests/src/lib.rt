@@ -15,6 +15,8 @@ mod headers;
 #[cfg(test)]
 mod key_hashes;
 #[cfg(test)]
+mod key_words;
+#[cfg(test)]
 mod keys;
 #[cfg(test)]
 mod logs;

@@ -73,7 +73,13 @@ fn text_in_pieces(
 ) -> Result<Vec<u8>, Refusal>
     requires { is_line_end reading.now.delimiter ≡ false }
 {
-    let pieces = pieces_of(alloc, file, reading.delimiter, count)?;
+    let pieces = pieces_of(
+        alloc,
+        file,
+        reading.delimiter,
+        count,
+        file.len() / count.max(1),
+    )?;
     let mut keys: Vec<Vec<u8>> = Vec::new(alloc);
     take_pieces(alloc, &mut keys, pieces.as_slice(), reading)?;
     Ok(text_of(alloc, &keys, reading.has_topics)?)
@@ -119,7 +125,13 @@ fn text_of_counted(
 ) -> Result<Vec<u8>, Refusal>
     requires { is_line_end reading.now.delimiter ≡ false }
 {
-    let pieces = pieces_of(alloc, file, reading.delimiter, count)?;
+    let pieces = pieces_of(
+        alloc,
+        file,
+        reading.delimiter,
+        count,
+        file.len() / count.max(1),
+    )?;
     let mut counter = KeyCounter::new(alloc, hasher, true)?;
     count_pieces(alloc, &mut counter, pieces.as_slice(), reading)?;
     let counts = counter.into_counts();

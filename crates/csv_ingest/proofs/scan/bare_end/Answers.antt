@@ -1,6 +1,6 @@
 use Rattle.std.proofs.Common.{◌+◌, ◌-◌, ◌≡◌, arith, get_or, subst, slice_range}
 use Rattle.csv.specs.declared.parser.State.TheVariants as st
-use Rattle.csv_ingest.specs.Private.FieldEnds.{HasNoEnd}
+use Rattle.csv_ingest.specs.Private.ByteSearch.{HasNone}
 use Rattle.csv_ingest.proofs.Fields.{Goes, bare-run, end-here}
 use Rattle.csv_ingest.proofs.scan.bare_end.Goals as goal
 
@@ -15,6 +15,6 @@ returns c =
     record {
       order = end.order;
       within = end.within;
-      ended = λ lt. end-here d (get_or text to 0) (end.ended lt);
-      walked = subst (λ i. HasNoEnd d text at i → Goes d st.InField st.InField text at i (slice_range text at i)) there (bare-run d text at (to - at) (omega (arith, end.order, end.within))) end.none;
+      ended = λ lt. end-here d (get_or text to 0) (end.is lt);
+      walked = subst (λ i. HasNone d 13 10 text at i → Goes d st.InField st.InField text at i (slice_range text at i)) there (bare-run d text at (to - at) (omega (arith, end.order, end.within))) end.none;
     }

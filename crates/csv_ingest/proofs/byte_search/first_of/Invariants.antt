@@ -1,12 +1,12 @@
 use Rattle.std.proofs.Common.{◌≤◌, ◌-◌, length}
-use Rattle.csv_ingest.specs.Private.FieldEnds.{HasNoEnd}
-use Rattle.csv_ingest.proofs.field_ends.field_end.Given as goal
+use Rattle.csv_ingest.specs.Private.ByteSearch.{HasNone}
+use Rattle.csv_ingest.proofs.byte_search.first_of.Given as goal
 
 abbrev pub invariant-loop-at : goal.invariant-loop-at
 invariant-loop-at l = record {
   order : l.fn.start ≤ l.at;
   within : l.at ≤ length l.text;
-  none : HasNoEnd l.delimiter l.text l.fn.start l.at;
+  none : HasNone l.a l.b l.c l.text l.fn.start l.at;
 }
 
 abbrev pub decreases-loop-at : goal.decreases-loop-at
