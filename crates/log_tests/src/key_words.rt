@@ -1,10 +1,14 @@
 //! Short keys in words: a key that was stored from its words is found by them, and by no others.
+//! And the longest of counted keys.
 
 ghost use Rattle.std.specs.Prelude.{◌≤◌, ◌<◌, length};
 ghost use Rattle.key_index.specs.declared.stored_key.TheConstants.{LONGEST_INLINE};
 
+use csv_ingest::KeySink;
+use key_counts::KeyCounter;
 use key_index::{KeyHash, KeyWords, LONGEST_INLINE, StoredKey};
 use lane_words::Memory;
+use std::alloc::Global;
 use std::hash::RandomState;
 use std::random::RandomSource;
 
@@ -72,6 +76,26 @@ fn hold_for_all(rt: &impl RandomSource) -> Result<bool, Memory> {
         }
     }
     Ok(true)
+}
+
+/// The longest of no keys, and of keys of 3, 22, 24 and 9 bytes.
+fn longest_of(rt: &impl RandomSource, alloc: Global) -> Result<(usize, usize), Memory> {
+    let Ok(hasher) = RandomState::new(rt) else {
+        return Err(Memory);
+    };
+    let mut counter = KeyCounter::new(alloc, hasher, false)?;
+    let none = counter.counts().longest();
+    counter.take(None, b"abc")?;
+    counter.take(None, &BYTES)?;
+    counter.take(None, b"a key of 24 bytes in all")?;
+    counter.take(None, b"nine more")?;
+    counter.settle()?;
+    Ok((none, counter.counts().longest()))
+}
+
+#[test]
+fn the_longest_key_is_known(rt: HostRuntime) {
+    assert_eq!(rt; longest_of(&rt, rt.alloc()), Ok((0, 24)));
 }
 
 #[test]
