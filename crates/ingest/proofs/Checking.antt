@@ -1,12 +1,10 @@
 -- A file that is counted within the limits of its logs, window by window.
-use Rattle.std.proofs.Common.{◌≡◌, ◌∙◌, ◌+◌, ◌<◌, ◌≤◌, ℕ, List, [], ◌∷◌, ◌++◌, Bool, true, false, Option, Some, None, Result, Ok, Err, length, take, drop, sym, ap, refl, subst, arith, inl, inr, append-nil, append_assoc, length-append, take-append-drop}
-use Rattle.std.specs.Prelude.{◌⊎◌, IfErr, OnOk}
+use Rattle.std.proofs.Common.{◌≡◌, ◌∙◌, ◌<◌, ◌≤◌, ℕ, List, [], ◌∷◌, ◌++◌, Bool, true, false, Option, Some, None, Result, Ok, Err, length, take, drop, sym, ap, refl, subst, arith, inl, append-nil, append_assoc, length-append, take-append-drop}
 use Rattle.std.specs.Option.{is_some}
 use Rattle.std.specs.Io.KnownBytes.{Consumes, IsAtEnd}
 use Rattle.std.proofs.lemmas.List.{map-append}
 use Rattle.byte_io.proofs.ConsecutiveCalls.{consumes_more}
 use Rattle.lane_words.specs.declared.Refusal.{Refusal}
-use Rattle.lane_words.specs.declared.Refusal.TheVariants as refusal
 use Rattle.lane_words.specs.declared.limits.TheConstants.{MOST_RECORDS}
 use Rattle.csv_ingest.specs.KeyFile.{Taking, taken_of}
 use Rattle.csv_ingest.specs.Pieces.{file_records}
@@ -31,7 +29,6 @@ use Rattle.ingest.specs.Limits.{AreEntriesOfTopics, BeginsAfter, IsLimitCheck, L
 use Rattle.ingest.specs.Private.Counted.{AreWithin, BeginsCheck, ChecksFound, ChecksWindow, Concludes, CountsSource, HasRoom, IsChecking, IsFirstFault, IsSourceFault, ReadsBehind, TakesTopics}
 use Rattle.ingest.specs.Private.LimitLaws.{fewer-keys}
 use Rattle.ingest.specs.Private.Limits.{long_fault_of}
-use Rattle.ingest.specs.RecordFaults.{first_fault}
 use Rattle.ingest.specs.Records.{AreOfTopics}
 use Rattle.ingest.proofs.EntryLimits.{entries-of_topics, unfilled}
 use Rattle.ingest.proofs.Taken.{chunk-topics, file-topics}

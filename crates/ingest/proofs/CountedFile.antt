@@ -1,5 +1,5 @@
 -- A file that is counted, from its columns and what is counted of it.
-use Rattle.std.proofs.Common.{◌≡◌, ◌∙◌, ℕ, List, ◌++◌, Bool, true, Option, Some, None, Result, Ok, Err, sym, ap, refl, subst, inl, inr}
+use Rattle.std.proofs.Common.{◌≡◌, ◌∙◌, ℕ, List, ◌++◌, Bool, true, Option, Some, None, Result, Ok, Err, sym, ap, subst, inl, inr}
 use Rattle.std.specs.Prelude.{◌⊎◌, IfErr, IfOk}
 use Rattle.std.specs.Io.KnownBytes.{Consumes, IsAtEnd}
 use Rattle.std.specs.Result.{result_map_both}
@@ -7,7 +7,7 @@ use Rattle.byte_io.proofs.ConsecutiveCalls.{consumes_more}
 use Rattle.lane_words.specs.declared.Refusal.{Refusal}
 use Rattle.lane_words.specs.declared.Refusal.TheVariants as r
 use Rattle.command_line.specs.declared.options.Options.{Options}
-use Rattle.csv_ingest.specs.KeyFile.{Taking, taken_of}
+use Rattle.csv_ingest.specs.KeyFile.{Taking}
 use Rattle.key_stream.specs.declared.counting.Counting.{Counting}
 use Rattle.ingest.specs.Counted.{CountsFile}
 use Rattle.ingest.specs.Limits.{records_taken}

@@ -19,12 +19,11 @@ use Rattle.key_counts.specs.Rounds.{AreKnown, HaveTaken}
 use Rattle.key_index.proofs.Firsts.{own}
 use Rattle.key_index.proofs.Growth.{grows, interned}
 use Rattle.key_index.specs.Keys.{distinct, id_of, is_interned, key_at, with_key}
-use Rattle.partition_log.specs.Appends.{in_first}
 use Rattle.partition_log.specs.Keys.{Key, Keyed, keys_in}
 use Rattle.ingest.specs.Limits.{AreEntriesOfTopics, IsLimitCheck, Limits, is_too_long, record_taken, records_in_partition, records_taken}
 use Rattle.ingest.specs.Private.Limits.{Adds, goes_to, has_long_key, have_long_keys, long_fault_of, no_records, raised}
 use Rattle.ingest.specs.RecordFaults.{first_fault}
-use Rattle.ingest.specs.Records.{AreOfTopics, partition_of_record, record_of}
+use Rattle.ingest.specs.Records.{AreOfTopics, partition_of_record}
 use Rattle.ingest.proofs.FirstFault.{any-distinct, any-with_key, first_fault-long, length-distinct, length-in_partition}
 use Rattle.ingest.proofs.GoingOn.{index-set}
 
@@ -130,15 +129,15 @@ of-topic-at counts has_topics keys i lt all =
     subst (λ (k : Keyed). k.0 < length counts) (get_or-map (record_taken has_topics) keys i [] (0, []) lt) (all i (0, []) among)
 
 -- one more entry of a worker
-pub adds-entry : (start now next : Limits) (keys : List Key) (counts counts2 : List ℕ) (i : ℕ) (key : Key) → counts2 ≡ counts → length counts ≡ length keys → i < length keys → key ≡ key_at keys i
+pub adds-entry : (start now next : Limits) (keys : List Key) (counts : List ℕ) (i n : ℕ) (key : Key) → n ≡ get_or counts i 0 → length counts ≡ length keys → i < length keys → key ≡ key_at keys i
     → Adds start (λ f. total f (take i keys) (take i counts)) (have_long_keys start.has_topics (take i keys)) now
-    → Adds now (λ f. get_or counts2 i 0 * f key) (has_long_key now.has_topics key) next
+    → Adds now (λ f. n * f key) (has_long_key now.has_topics key) next
     → Adds start (λ f. total f (take (i + 1) keys) (take (i + 1) counts)) (have_long_keys start.has_topics (take (i + 1) keys)) next
-adds-entry start now next keys counts counts2 i key these long lt is first second =
-    let sums = λ (f : Key → ℕ). total f (take i keys) (take i counts) + get_or counts2 i 0 * f key in
+adds-entry start now next keys counts i n key these long lt is first second =
+    let sums = λ (f : Key → ℕ). total f (take i keys) (take i counts) + n * f key in
     let more = λ (f : Key → ℕ). total f (take (i + 1) keys) (take (i + 1) counts) in
-    let each = λ (f : Key → ℕ). sym (total-more f keys counts i long lt ∙ ap (λ ns. total f (take i keys) (take i counts) + get_or ns i 0 * f (key_at keys i)) (sym these)
-    ∙ ap (λ k. total f (take i keys) (take i counts) + get_or counts2 i 0 * f k) (sym is)) in
+    let each = λ (f : Key → ℕ). sym (total-more f keys counts i long lt ∙ ap (λ m. total f (take i keys) (take i counts) + m * f (key_at keys i)) (sym these)
+    ∙ ap (λ k. total f (take i keys) (take i counts) + n * f k) (sym is)) in
     let any = sym (list_any_more (has_long_key start.has_topics) keys i [] lt ∙ ap (λ k. have_long_keys start.has_topics (take i keys) || has_long_key start.has_topics k) (sym is)
     ∙ ap (λ h. have_long_keys start.has_topics (take i keys) || has_long_key h key) (sym first.same_topics)) in
     adds-same start next sums more (have_long_keys start.has_topics (take i keys) || has_long_key now.has_topics key) (have_long_keys start.has_topics (take (i + 1) keys)) each any

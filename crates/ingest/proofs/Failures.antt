@@ -9,11 +9,10 @@ use Rattle.lane_words.specs.declared.limits.TheConstants.{LONGEST_KEY}
 use Rattle.csv_ingest.specs.KeyFile.{IsFileFault, Taking}
 use Rattle.csv_ingest.proofs.Faults.{fault-kind}
 use Rattle.key_stream.specs.Counting.{HasFaultIn}
-use Rattle.key_stream.specs.Rounds.{entries_in}
 use Rattle.key_stream.specs.declared.counting.Counting.{Counting}
 use Rattle.partition_log.specs.Keys.{Keyed, distinct, keys_in}
 use Rattle.partition_log.specs.Logs.{exceeds_limits}
-use Rattle.ingest.specs.Limits.{Limits, records_taken}
+use Rattle.ingest.specs.Limits.{Limits}
 use Rattle.ingest.specs.Private.Counted.{IsChecking, IsCountFault}
 use Rattle.ingest.specs.RecordFaults.{IsKeyFault, first_fault, records_in_its_partition}
 use Rattle.ingest.specs.Reports.{IsNoStop, IsNoWrite, failed_reads}

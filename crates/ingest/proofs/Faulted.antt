@@ -1,14 +1,13 @@
 -- The first record that can't be appended, by the answers of the logs.
-use Rattle.std.proofs.Common.{◌≡◌, ◌∙◌, ℕ, Bool, true, false, List, [], ◌∷◌, ◌++◌, length, sym, ap, refl, inl, inr, subst}
-use Rattle.std.specs.Prelude.{◌==◌, if◌then◌else◌, ◌⊎◌, filter, nat_lt, Option, Some, None, Result, Ok, Err, IsOk}
-use Rattle.lane_words.specs.Answers.{Answers}
+use Rattle.std.proofs.Common.{◌≡◌, ◌∙◌, ℕ, Bool, true, false, List, [], ◌∷◌, ◌++◌, length, sym, ap, refl}
+use Rattle.std.specs.Prelude.{◌==◌, if◌then◌else◌, filter, nat_lt, Option, Some, None, Result, Ok, Err, IsOk}
 use Rattle.lane_words.specs.declared.limits.TheConstants.{LONGEST_KEY}
 use Rattle.lane_words.specs.declared.Refusal.{Refusal}
 use Rattle.lane_words.specs.declared.Refusal.TheVariants as r
 use Rattle.partition_log.specs.Keys.{Keyed}
-use Rattle.partition_log.specs.Logs.{AreLogsOf, IsOfTopic, IsValidLogs, PartitionLogs, append_answer, exceeds_limits, is_full_for, log_at, place_in}
+use Rattle.partition_log.specs.Logs.{AreLogsOf, IsOfTopic, IsValidLogs, PartitionLogs, append_answer, exceeds_limits, log_at, place_in}
 use Rattle.partition_log.proofs.Valid.{place-below}
-use Rattle.ingest.specs.RecordFaults.{fault_or, first_fault, record_fault, records_in_its_partition, IsKeyFault}
+use Rattle.ingest.specs.RecordFaults.{first_fault, record_fault, records_in_its_partition}
 use Rattle.ingest.specs.Records.{partition_of_record}
 use Rattle.ingest.proofs.Placed.{log-long, partition-is}
 

@@ -1,5 +1,5 @@
 -- The columns of a file, found before its first record is counted.
-use Rattle.std.proofs.Common.{◌≡◌, ◌∙◌, ℕ, List, [], ◌∷◌, ◌++◌, Bool, true, false, Option, Some, None, Result, Ok, Err, IfErr, sym, ap, refl, subst, inl, inr, append-nil}
+use Rattle.std.proofs.Common.{◌≡◌, ◌∙◌, ℕ, List, [], ◌∷◌, ◌++◌, Bool, true, false, Option, Some, None, Result, Ok, Err, IfErr, sym, ap, refl, subst, inl, inr}
 use Rattle.std.specs.Prelude.{◌⊎◌, IfOk, IfSome, OnOk}
 use Rattle.std.specs.Io.KnownBytes.{Consumes, IsAtEnd}
 use Rattle.byte_io.proofs.ConsecutiveCalls.{consumes_more}
@@ -15,7 +15,7 @@ use Rattle.csv_ingest.specs.Header.{HasHeader, header_of}
 use Rattle.csv_ingest.specs.Pieces.{file_records}
 use Rattle.csv_ingest.proofs.Headers.{column-same}
 use Rattle.key_stream.specs.Counting.{Refills}
-use Rattle.ingest.specs.Private.Columns.{AreColumns, FindsColumns, FoundColumns, IsColumnFault, IsFilled, KnowsColumns, MayFollow, ReadsHeader, is_named, key_column, topic_column}
+use Rattle.ingest.specs.Private.Columns.{AreColumns, FindsColumns, FoundColumns, IsColumnFault, IsFilled, KnowsColumns, MayFollow, ReadsHeader, key_column, topic_column}
 use Rattle.ingest.specs.Records.{column_in, records_among, records_of, topic_column_in}
 use Rattle.ingest.specs.declared.columns.Columns.{Columns}
 

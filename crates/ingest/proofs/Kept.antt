@@ -1,5 +1,5 @@
 -- The records that are kept of a file, from what was counted of it.
-use Rattle.std.proofs.Common.{◌≡◌, ◌∙◌, ℕ, Bool, true, List, [], ◌++◌, Ok, Option, Some, None, sym, ap, ap₂, refl, subst, append-nil}
+use Rattle.std.proofs.Common.{◌≡◌, ◌∙◌, ℕ, Bool, true, List, ◌++◌, Ok, Option, Some, None, sym, ap, ap₂, subst, append-nil}
 use Rattle.std.specs.Prelude.{IfSome}
 use Rattle.std.specs.Io.KnownBytes.{Consumes, IsAtEnd}
 use Rattle.lane_words.specs.declared.Refusal.{Refusal}
@@ -10,7 +10,6 @@ use Rattle.key_counts.specs.Segments.{keys_of}
 use Rattle.key_stream.specs.Tally.{AreCountersOf}
 use Rattle.key_stream.specs.declared.counting.Counting.{Counting}
 use Rattle.key_stream.specs.declared.tally.Counters.{Counters}
-use Rattle.partition_log.specs.Keys.{Keyed}
 use Rattle.ingest.specs.Counted.{AreReadFor, CountsFile, IsReadFrom}
 use Rattle.ingest.specs.Limits.{records_taken}
 use Rattle.ingest.specs.Private.Records.{AreKept, keys_kept}

@@ -1,13 +1,13 @@
 -- The records of a file, from the keys that are read.
 use Rattle.std.proofs.Common.{◌≡◌, ◌∙◌, ◌<◌, ◌+◌, ℕ, Bool, true, false, List, [], ◌∷◌, length, map, cond, sym, ap, refl, arith, inl, inr, subst}
-use Rattle.std.specs.Prelude.{◌==◌, ◌≤◌, not, ◌⊎◌, All, Option, Some, None, Result, Ok, Err, zip}
+use Rattle.std.specs.Prelude.{◌==◌, ◌≤◌, not, All, Option, Some, None, Result, Ok, Err, zip}
 use Rattle.std.specs.Borrow.{Bor}
 use Rattle.std.specs.List.{position_from}
 use Rattle.std.specs.Result.{result_map_both}
 use Rattle.std.specs.Str.{bytes_eq}
 use Rattle.std.proofs.lemmas.Bool.Decides.{eqb_tells}
 use Rattle.std.proofs.lemmas.List.{length-map}
-use Rattle.std.proofs.lemmas.List.Elements.{All-cons, All-head, All-map, All-nil, All-tail}
+use Rattle.std.proofs.lemmas.List.Elements.{All-cons, All-map, All-nil}
 use Rattle.lane_words.specs.declared.Refusal.{Refusal}
 use Rattle.lane_words.specs.declared.Refusal.TheVariants as r
 use Rattle.csv.specs.Records.{field_at}
@@ -15,7 +15,6 @@ use Rattle.csv_ingest.specs.KeyFile.{Record, Taking, behind_index, behind_topic,
 use Rattle.csv_ingest.specs.Pieces.{file_records}
 use Rattle.csv_ingest.specs.Rounds.{chunk_keys}
 use Rattle.csv_ingest.specs.declared.lack.Lack.{Lack}
-use Rattle.partitioner.specs.Place.{AreTopics}
 use Rattle.partition_log.specs.Appends.{in_first, lent}
 use Rattle.partition_log.specs.Keys.{Key, Keyed, of_first}
 use Rattle.partitioner.specs.declared.topic.Topic.{Topic}

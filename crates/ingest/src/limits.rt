@@ -193,9 +193,8 @@ impl LimitCheck {
         ensures { Adds self.old (λ f. total_of f worker.now)
             (have_long_keys self.old.has_topics worker.now.keys) self.new }
     {
-        let counts = worker.counts();
         for code in 0..worker.len() {
-            self.add_entry(worker.key(code), counts[code]);
+            self.add_entry(worker.key(code), worker.count(code));
         }
     }
 

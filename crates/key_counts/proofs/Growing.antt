@@ -1,10 +1,7 @@
 -- Segments while their workers grow.
 use Rattle.std.proofs.Common.{◌≡◌, ◌∙◌, ◌-◌, ◌≤◌, ℕ, suc, List, [], ◌∷◌, ◌++◌, length, take, drop, ap, ap₂, refl, arith, length-append, length-drop}
 use Rattle.std.specs.Prelude.{All, slice_range}
-use Rattle.std.proofs.lemmas.List.{append-nil, drop-append-le, drop_at, take-append-le, take_all}
-use Rattle.std.proofs.lemmas.List.Elements.{All-append, All-cons, All-nil}
-use Rattle.std.proofs.lemmas.List.Concat.{flat_map-append}
-use Rattle.key_index.specs.Keys.{Key}
+use Rattle.std.proofs.lemmas.List.{drop-append-le, drop_at, take-append-le, take_all}
 use Rattle.key_counts.specs.Counts.{Entries}
 use Rattle.key_counts.specs.Partition.{AreGrown}
 use Rattle.key_counts.specs.Segments.{IsSegment, entries_of, keys_in, keys_of}

@@ -9,5 +9,6 @@ pub mod Recorded
 pub mod Rounds
 pub mod Segmented
 pub mod Steps
+pub mod Stored
 pub mod Totals
 pub mod Walks

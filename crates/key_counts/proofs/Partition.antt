@@ -1,9 +1,8 @@
 -- Segments added one by one hold each entry once.
-use Rattle.std.proofs.Common.{◌≡◌, ◌≢◌, ◌∙◌, ◌+◌, ◌-◌, ◌*◌, ◌<◌, ◌≤◌, ℕ, zero, suc, List, [], ◌∷◌, ◌++◌, length, drop, get_or, sym, ap, ap₂, refl, subst, arith, inl, inr, get_or-set_same, get_or-set_other, get_or-drop, get_or-take, false}
-use Rattle.std.specs.Prelude.{All, slice_range, slice_set, sum_by}
-use Rattle.std.proofs.lemmas.Bool.{cases_eq}
-use Rattle.std.proofs.lemmas.List.{get_or-map, length-map, length-set}
-use Rattle.std.proofs.lemmas.List.Sums.{sum_by-append, sum_by-cons}
+use Rattle.std.proofs.Common.{◌≡◌, ◌∙◌, ◌+◌, ◌-◌, ◌*◌, ◌<◌, ℕ, zero, suc, List, [], ◌∷◌, ◌++◌, length, drop, get_or, sym, ap, ap₂, refl, arith, get_or-drop, get_or-take, false}
+use Rattle.std.specs.Prelude.{All, slice_range, sum_by}
+use Rattle.std.proofs.lemmas.List.{get_or-map, length-map}
+use Rattle.std.proofs.lemmas.List.Sums.{sum_by-cons}
 use Rattle.key_index.specs.Keys.{Key, key_at}
 use Rattle.lane_words.specs.Sums.{sum_below}
 use Rattle.key_counts.specs.Counts.{Entries, no_entries, total, total_of}

@@ -1,6 +1,6 @@
 -- After each round the workers' new entries become segments.
 use Rattle.std.proofs.Common.{Bool, ◌≡◌, ◌≢◌, ◌∙◌, ◌+◌, ◌-◌, ◌*◌, ◌<◌, ◌≤◌, ℕ, zero, suc, true, List, [], ◌∷◌, ◌++◌, drop, length, map, replicate, get_or, sym, ap, ap₂, refl, subst, arith, inl, inr, append-nil, length-append, false}
-use Rattle.std.specs.Prelude.{◌==◌, All, count_by, filter, if◌then◌else◌, slice_range, sum_by}
+use Rattle.std.specs.Prelude.{◌==◌, All, count_by, if◌then◌else◌, slice_range, sum_by}
 use Rattle.std.specs.List.{fold}
 use Rattle.std.specs.Str.{bytes_eq}
 use Rattle.std.proofs.lemmas.Bool.{cases_Bool, eq-eqb}

@@ -89,17 +89,17 @@ added-one keys counts codes coded key long all = record {
 }
 
 -- ---- the same, of answers
-pub counts-one : {T E : Type 0} (result : Result T E) (old : Entries) (keys : List Key) (counts new codes new_codes : List ℕ) (coded : Bool) (code : ℕ)
-    → record { keys = keys; counts = counts; coded = coded; codes = codes } ≡ old → length counts ≡ length keys → code < length old.keys
+pub counts-one : {T E : Type 0} (result : Result T E) (old : Entries) (keys new_keys : List Key) (counts new codes new_codes : List ℕ) (coded : Bool) (code : ℕ)
+    → record { keys = keys; counts = counts; coded = coded; codes = codes } ≡ old → length counts ≡ length keys → code < length old.keys → new_keys ≡ keys
     → new ≡ slice_set counts code (get_or counts code 0 + 1)
     → OnOk result (new_codes ≡ with_code coded codes code)
-    → OnOk result (Takes old (record { keys = keys; counts = new; coded = coded; codes = new_codes }) (key_at old.keys code ∷ []))
-counts-one (Err e) old keys counts new codes new_codes coded code is long lt so kept = tt
-counts-one (Ok u) old keys counts new codes new_codes coded code is long lt so kept =
+    → OnOk result (Takes old (record { keys = new_keys; counts = new; coded = coded; codes = new_codes }) (key_at old.keys code ∷ []))
+counts-one (Err e) old keys new_keys counts new codes new_codes coded code is long lt ks so kept = tt
+counts-one (Ok u) old keys new_keys counts new codes new_codes coded code is long lt ks so kept =
     let same : length keys ≡ length old.keys = ap (λ (o : Entries). length o.keys) is in
     let below : code < length keys = omega (arith, lt, same) in
-    let here : Takes (record { keys = keys; counts = counts; coded = coded; codes = codes }) (record { keys = keys; counts = new; coded = coded; codes = new_codes }) (key_at keys code ∷ []) =
-    rw (so, kept) (counted-one keys counts codes coded code (get_or counts code 0 + 1) long below refl) in
+    let here : Takes (record { keys = keys; counts = counts; coded = coded; codes = codes }) (record { keys = new_keys; counts = new; coded = coded; codes = new_codes }) (key_at keys code ∷ []) =
+    rw (ks, so, kept) (counted-one keys counts codes coded code (get_or counts code 0 + 1) long below refl) in
     rw (← is) here
 
 pub adds-one : {T E : Type 0} (result : Result T E) (old : Entries) (keys new_keys : List Key) (counts new_counts codes new_codes : List ℕ) (coded : Bool) (code : ℕ) (stored key : Key)

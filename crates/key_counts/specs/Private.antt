@@ -1,4 +1,5 @@
 pub mod Codes
+pub mod Entry
 pub mod Filter
 pub mod Hashes
 pub mod Parts

@@ -1,5 +1,5 @@
 -- The records that several workers took, in the order in which the chunks of a file brought them.
-use Rattle.std.specs.Prelude.{◌≡◌, ℕ, All, Bool, true, false, List, [], length, map}
+use Rattle.std.specs.Prelude.{◌≡◌, ℕ, All, Bool, true, false, List, [], map}
 use Rattle.key_index.specs.Keys.{Key}
 use Rattle.key_counts.specs.Counts.{Entries, records_of}
 use Rattle.key_counts.specs.Partition.{lens_of}

@@ -1,5 +1,5 @@
 -- The entries of several workers in the order in which the chunks of a file brought them.
-use Rattle.std.specs.Prelude.{◌≤◌, ◌<◌, ◌==◌, ℕ, false, List, [], drop, filter, flat_map, length, map, slice_index_or, slice_range, cond}
+use Rattle.std.specs.Prelude.{◌≤◌, ◌<◌, ◌==◌, ℕ, false, List, drop, filter, flat_map, length, map, slice_index_or, slice_range, cond}
 use Rattle.std.specs.Str.{bytes_eq}
 use Rattle.key_index.specs.Keys.{Key, distinct}
 use Rattle.key_counts.specs.Counts.{Entries, no_entries, total}

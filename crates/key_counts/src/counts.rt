@@ -1,10 +1,12 @@
 //! Keys and how often each came.
 
-ghost use Rattle.std.specs.Prelude.{◌≡◌, ◌<◌, ◌≤◌, ◌+◌, ◌^◌, ◌∷◌, ◌++◌, [], All, true, IfOk, IfSome, OnErr, OnOk, length, slice_index_or, slice_set, vec_len};
+ghost use Rattle.std.specs.Prelude.{◌≡◌, ◌<◌, ◌≤◌, ◌^◌, ◌∷◌, [], All, IfOk, IfSome, OnErr, OnOk, length, slice_index_or};
 ghost use Rattle.key_index.specs.Keys.{key_at};
 ghost use Rattle.key_counts.specs.Counts.{Takes, no_entries};
 ghost use Rattle.key_counts.specs.Private.Codes.{with_code};
+ghost use Rattle.key_counts.specs.Private.Entry.{stored_keys};
 
+use crate::entry::{Entry, is_copy_of, is_key_of, raise};
 use crate::slots::Slots;
 use crate::waiting::WaitingKey;
 use key_index::{KeyHash, KeyWords, LONGEST_INLINE, StoredKey};
@@ -22,10 +24,8 @@ pub struct KeyCounts {
     hasher: KeyHash,
     /// Which entries may have a key.
     slots: Slots,
-    /// The key of each entry.
-    keys: Vec<StoredKey>,
-    /// How many records each entry took.
-    counts: Vec<u64>,
+    /// The entries.
+    entries: Vec<Entry>,
     /// No key is longer.
     longest: usize,
     /// Whether the code of each record's entry is kept.
@@ -37,20 +37,20 @@ pub struct KeyCounts {
 impl Model for KeyCounts {
     ghost use Rattle.std.specs.Prelude.{◌≡◌, ◌<◌, ◌≤◌, ◌^◌, All, length};
     ghost use Rattle.key_counts.specs.Counts.{Entries};
+    ghost use Rattle.key_counts.specs.Private.Entry.{stored_counts, stored_keys};
 
     ghost Value = { Entries };
 
     ghost view = { λ s. record {
-      keys = s.keys.items;
-      counts = s.counts.items;
+      keys = stored_keys s.entries.items;
+      counts = stored_counts s.entries.items;
       coded = s.coded;
       codes = s.codes.items;
     } };
 
-    ghost invariant = { λ s. (length s.counts.items ≡ length s.keys.items)
-        × All (λ code. code < length s.keys.items) s.codes.items
-        × (length s.keys.items < 2 ^ 32)
-        × All (λ key. length key ≤ s.longest) s.keys.items };
+    ghost invariant = { λ s. All (λ code. code < length s.entries.items) s.codes.items
+        × (length s.entries.items < 2 ^ 32)
+        × All (λ key. length key ≤ s.longest) (stored_keys s.entries.items) };
 }
 
 /// 32 bits of a key's hash, mixed by a bijection: of keys that count up, a sum of products alone
@@ -62,37 +62,16 @@ fn half_of(hash: u64) -> u32 {
     mixed ^ mixed >> 15
 }
 
-/// Whether the entry of this code has this short key.
-#[inline(always)]
-fn is_copy_of(keys: &[StoredKey], code: usize, key: &KeyWords) -> bool
-    ensures { result ≡ true → (code < length keys.now) × (key_at keys.now code ≡ key.now) }
-{
-    match keys.get(code) {
-        Some(stored) => stored.is_words(key),
-        None => false,
-    }
-}
-
-/// Whether the entry of this code has this key.
-fn is_key_of(keys: &[StoredKey], code: usize, key: &[u8]) -> bool
-    ensures { result ≡ true → (code < length keys.now) × (key_at keys.now code ≡ key.now) }
-{
-    match keys.get(code) {
-        Some(stored) => stored.as_slice() == key,
-        None => false,
-    }
-}
-
 /// The code of an entry that has this short key, if the slots lead to one.
 #[inline(always)]
-fn find_short(slots: &Slots, keys: &[StoredKey], hash: u32, key: &KeyWords) -> Option<usize>
-    ensures { IfSome result
-        (λ code. (code < length keys.now) × (key_at keys.now code ≡ key.now)) }
+fn find_short(slots: &Slots, entries: &[Entry], hash: u32, key: &KeyWords) -> Option<usize>
+    ensures { IfSome result (λ code. (code < length entries.now)
+        × (key_at (stored_keys entries.now) code ≡ key.now)) }
 {
     let mut index = hash as usize;
     for _ in 0..slots.len() {
         let (other, code) = slots.get(index)?;
-        if other == hash && is_copy_of(keys, code as usize, key) {
+        if other == hash && is_copy_of(entries, code as usize, key) {
             return Some(code as usize);
         }
         index = index.wrapping_add(1);
@@ -101,34 +80,19 @@ fn find_short(slots: &Slots, keys: &[StoredKey], hash: u32, key: &KeyWords) -> O
 }
 
 /// The code of an entry that has this key, if the slots lead to one.
-fn find_long(slots: &Slots, keys: &[StoredKey], hash: u32, key: &[u8]) -> Option<usize>
-    ensures { IfSome result
-        (λ code. (code < length keys.now) × (key_at keys.now code ≡ key.now)) }
+fn find_long(slots: &Slots, entries: &[Entry], hash: u32, key: &[u8]) -> Option<usize>
+    ensures { IfSome result (λ code. (code < length entries.now)
+        × (key_at (stored_keys entries.now) code ≡ key.now)) }
 {
     let mut index = hash as usize;
     for _ in 0..slots.len() {
         let (other, code) = slots.get(index)?;
-        if other == hash && is_key_of(keys, code as usize, key) {
+        if other == hash && is_key_of(entries, code as usize, key) {
             return Some(code as usize);
         }
         index = index.wrapping_add(1);
     }
     None
-}
-
-/// Counts one more record of an entry.
-#[inline(always)]
-fn raise(counts: &mut Vec<u64>, code: usize) -> Result<(), Memory>
-    requires { code < vec_len counts.old }
-    ensures ok { OnOk result (counts.new.items
-        ≡ slice_set counts.old.items code (slice_index_or counts.old.items code 0 + 1)) }
-    ensures len { length counts.new.items ≡ length counts.old.items }
-{
-    let Some(count) = counts[code].checked_add(1) else {
-        return Err(Memory);
-    };
-    counts[code] = count;
-    Ok(())
 }
 
 /// Keeps the code of one more record's entry, if codes are kept.
@@ -144,26 +108,6 @@ fn keep_code(codes: &mut Vec<u32>, coded: bool, code: usize) -> Result<(), Memor
     Ok(())
 }
 
-/// Adds an entry that took one record. Without memory there is none.
-fn push_entry(
-    keys: &mut Vec<StoredKey>,
-    counts: &mut Vec<u64>,
-    key: StoredKey,
-) -> Result<(), Memory>
-    ensures keys { OnOk result (keys.new.items ≡ keys.old.items ++ key ∷ []) }
-    ensures counts { OnOk result (counts.new.items ≡ counts.old.items ++ 1 ∷ []) }
-    ensures err { OnErr result
-        ((keys.new.items ≡ keys.old.items) × (counts.new.items ≡ counts.old.items)) }
-{
-    let entries = counts.len();
-    counts.push(1)?;
-    if keys.push(key).is_err() {
-        counts.truncate(entries);
-        return Err(Memory);
-    }
-    Ok(())
-}
-
 impl KeyCounts {
     /// No entries. Keys are hashed by this hasher, which a stranger must not know. If `coded`, the
     /// code of each record's entry is kept.
@@ -174,19 +118,19 @@ impl KeyCounts {
             alloc,
             hasher: KeyHash::of(hasher),
             slots: Slots::new(alloc)?,
-            keys: Vec::new(alloc),
-            counts: Vec::new(alloc),
+            entries: Vec::new(alloc),
             longest: 0,
             coded,
             codes: Vec::new(alloc),
         })
     }
 
-    /// The number of entries.
+    /// The number of entries, each of which has a key and a count.
     pub fn len(&self) -> usize
-        ensures { result ≡ length self.now.keys }
+        ensures keys { result ≡ length self.now.keys }
+        ensures counts { result ≡ length self.now.counts }
     {
-        self.keys.len()
+        self.entries.len()
     }
 
     /// The key of the entry of this code.
@@ -194,7 +138,7 @@ impl KeyCounts {
         requires { code < length self.now.keys }
         ensures { result.now ≡ key_at self.now.keys code }
     {
-        self.keys[code].as_slice()
+        self.entries[code].key.as_slice()
     }
 
     /// The same entries, without the memory of the slots. A key that is taken then has a new entry.
@@ -204,8 +148,7 @@ impl KeyCounts {
         let KeyCounts {
             alloc,
             hasher,
-            keys,
-            counts,
+            entries,
             longest,
             coded,
             codes,
@@ -215,8 +158,7 @@ impl KeyCounts {
             alloc,
             hasher,
             slots: Slots::none(alloc),
-            keys,
-            counts,
+            entries,
             longest,
             coded,
             codes,
@@ -230,12 +172,12 @@ impl KeyCounts {
         self.longest
     }
 
-    /// How many records each entry took, by code.
-    pub fn counts(&self) -> &[u64]
-        ensures value { result.now ≡ self.now.counts }
-        ensures len { length self.now.counts ≡ length self.now.keys }
+    /// How many records the entry of this code took.
+    pub fn count(&self, code: usize) -> u64
+        requires { code < length self.now.keys }
+        ensures { result ≡ slice_index_or self.now.counts code 0 }
     {
-        self.counts.as_slice()
+        self.entries[code].count
     }
 
     /// The code of each record's entry, in the order of the records, if codes are kept.
@@ -252,7 +194,7 @@ impl KeyCounts {
         requires { code < length self.old.keys }
         ensures { OnOk result (Takes self.old self.new (key_at self.old.keys code ∷ [])) }
     {
-        raise(&mut self.counts, code)?;
+        raise(&mut self.entries, code)?;
         keep_code(&mut self.codes, self.coded, code)
     }
 
@@ -262,13 +204,13 @@ impl KeyCounts {
     fn add(&mut self, hash: u32, key: StoredKey) -> Result<(), Memory>
         ensures { OnOk result (Takes self.old self.new (key ∷ [])) }
     {
-        let code = self.keys.len();
+        let code = self.entries.len();
         if code >= u32::MAX as usize {
             return Err(Memory);
         }
         self.longest = self.longest.max(key.as_slice().len());
         self.slots.insert(self.alloc, hash, code as u32)?;
-        push_entry(&mut self.keys, &mut self.counts, key)?;
+        self.entries.push(Entry { key, count: 1 })?;
         keep_code(&mut self.codes, self.coded, code)
     }
 
@@ -301,7 +243,7 @@ impl KeyCounts {
         ensures { OnOk result (Takes self.old self.new (key.now ∷ [])) }
     {
         let code = likely as usize;
-        if is_copy_of(self.keys.as_slice(), code, key) {
+        if is_copy_of(self.entries.as_slice(), code, key) {
             return self.count_one(code);
         }
         self.seek_short(half_of(hash), key)
@@ -312,7 +254,7 @@ impl KeyCounts {
     fn seek_short(&mut self, hash: u32, key: &KeyWords) -> Result<(), Memory>
         ensures { OnOk result (Takes self.old self.new (key.now ∷ [])) }
     {
-        match find_short(&self.slots, self.keys.as_slice(), hash, key) {
+        match find_short(&self.slots, self.entries.as_slice(), hash, key) {
             Some(code) => self.count_one(code),
             None => self.add(hash, StoredKey::of_words(key)),
         }
@@ -323,11 +265,11 @@ impl KeyCounts {
         ensures { OnOk result (Takes self.old self.new (key.now ∷ [])) }
     {
         let hash = half_of(self.hasher.hash_of(key));
-        match find_long(&self.slots, self.keys.as_slice(), hash, key) {
+        match find_long(&self.slots, self.entries.as_slice(), hash, key) {
             Some(code) => self.count_one(code),
             None => {
-                let text = Vec::from_slice(self.alloc, key)?;
-                self.add(hash, StoredKey::long(text))
+                let stored = StoredKey::of(self.alloc, key)?;
+                self.add(hash, stored)
             }
         }
     }

@@ -13,6 +13,7 @@
 
 mod counter;
 mod counts;
+mod entry;
 mod filter;
 mod hashes;
 mod merging;

@@ -143,14 +143,13 @@ impl<'a> Walk<'a> {
         ensures { OnOk result (WalksOver (may_have_twin twins.now) shared.now skip entries.now
             segment self.old self.new) }
     {
-        let counts = entries.counts();
         let flags = twins.flags_in(segment.worker);
         for code in segment.from..segment.to {
             let key = behind(entries.key(code), skip);
             if flags[code] {
                 self.take_shared(key, shared)?;
             } else {
-                self.take_unique(key, counts[code], shared)?;
+                self.take_unique(key, entries.count(code), shared)?;
             }
         }
         Ok(())
@@ -233,6 +232,6 @@ pub fn are_counted(workers: &[KeyCounts])
     ensures { All HasCounts workers.now }
 {
     for w in 0..workers.len() {
-        let _counts = workers[w].counts();
+        let _len = workers[w].len();
     }
 }

@@ -48,6 +48,7 @@ fn gather<'a>(
     segment: Segment,
     skip: usize,
 ) -> Result<(), Memory>
+    requires counted { HasCounts entries.now }
     requires part { IsPartOf entries.now segment }
     requires flags { HasFlagsOf twins.now skip entries.now segment.worker }
     ensures keys { OnOk result (lent keys.new.items ≡ lent keys.old.items
@@ -55,12 +56,11 @@ fn gather<'a>(
     ensures counts { OnOk result (counts.new.items ≡ counts.old.items
         ++ kept_in (may_have_twin twins.now) skip entries.now segment) }
 {
-    let all = entries.counts();
     let flags = twins.flags_in(segment.worker);
     for code in segment.from..segment.to {
         if flags[code] {
             keys.push(behind(entries.key(code), skip))?;
-            counts.push(all[code])?;
+            counts.push(entries.count(code))?;
         }
     }
     Ok(())

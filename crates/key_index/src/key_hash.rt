@@ -12,7 +12,7 @@ use std::fmt;
 use std::fmt::{Debug, Formatter};
 use std::hash::{BuildHasher, Hasher, RandomState};
 
-/// The number of seeds: one for each word of a short key, and two more.
+/// The number of seeds: one for each four bytes of a short key, and two more.
 const SEEDS: usize = 8;
 
 /// The index of the seed that multiplies the key's length.
@@ -23,14 +23,15 @@ const ADDED: usize = 7;
 
 /// Hashes keys.
 ///
-/// The hash of a short key is a sum of products of its words and seeds. The hashes of any two
+/// The hash of a short key is a sum of products of its 32-bit words and seeds. The hashes of any two
 /// different keys are as if drawn at random, so whoever does not know the seeds cannot find keys
 /// that collide more often (Lemire and Kaser, Strongly universal string hashing is fast, The
 /// Computer Journal 57, 2014). It takes a quarter of SipHash's instructions. Long keys are hashed
 /// by SipHash.
 #[derive(Clone, Copy)]
 pub struct KeyHash {
-    /// The multipliers of the words of a short key and of its length, and the number that is added.
+    /// The multipliers of the 32-bit words of a short key and of its length, and the number that is
+    /// added.
     seeds: [u64; SEEDS],
     /// The hasher of long keys.
     long: RandomState,

@@ -11,7 +11,6 @@ use lane_words::{MOST_RECORDS, Memory};
 use std::alloc::Global;
 use std::hash::RandomState;
 use std::marker::Model;
-use std::mem;
 
 /// Distinct keys by number, at most 2^32 - 1 of them.
 #[derive(Debug, Drop)]
@@ -20,8 +19,9 @@ pub struct KeyMap {
     alloc: Global,
     /// The keys, each at the index of its number.
     set: IndexSet<StoredKey, KeyHash>,
-    /// The buffer that a long key is looked up with. It keeps its memory between lookups.
-    query: Vec<u8>,
+    /// The buffer that a long key is looked up with, once there was one. It keeps its memory between
+    /// lookups.
+    query: Option<Box<Vec<u8>>>,
 }
 
 impl Model for KeyMap {
@@ -50,7 +50,7 @@ impl KeyMap {
         KeyMap {
             alloc,
             set: IndexSet::with_hasher(alloc, hasher),
-            query: Vec::new(alloc),
+            query: None,
         }
     }
 
@@ -91,9 +91,7 @@ impl KeyMap {
         }
         let query = long_query(self.alloc, &mut self.query, key)?;
         let found = find_in(&self.set, &query);
-        if let Some(text) = query.into_text() {
-            self.query = text;
-        }
+        self.query = query.into_text();
         Ok(found)
     }
 
@@ -105,7 +103,7 @@ impl KeyMap {
             × (self.new ≡ with_key self.old key.now)) }
         ensures err { OnErr result (self.new ≡ self.old) }
     {
-        let stored = stored_key(self.alloc, key)?;
+        let stored = StoredKey::of(self.alloc, key)?;
         let (number, _) = self.set.insert_full(stored)?;
         Ok(number as u32)
     }
@@ -152,25 +150,19 @@ fn find_in(set: &IndexSet<StoredKey, KeyHash>, key: &StoredKey) -> Option<u32>
 }
 
 /// A long key to look up, in the buffer of the last one.
-fn long_query(alloc: Global, last: &mut Vec<u8>, key: &[u8]) -> Result<StoredKey, Memory>
+fn long_query(
+    alloc: Global,
+    last: &mut Option<Box<Vec<u8>>>,
+    key: &[u8],
+) -> Result<StoredKey, Memory>
     ensures { IfOk result (λ query. query ≡ key.now) }
 {
-    let mut text = mem::replace(last, Vec::new(alloc));
+    let Some(text) = last.take() else {
+        let text = Box::new(alloc, Vec::from_slice(alloc, key)?)?;
+        return Ok(StoredKey::long(text));
+    };
+    let mut text = text;
     text.clear();
-    if text.extend_from_slice(key).is_err() {
-        *last = text;
-        return Err(Memory);
-    }
-    Ok(StoredKey::long(text))
-}
-
-/// A key in the form in which the map stores it.
-fn stored_key(alloc: Global, key: &[u8]) -> Result<StoredKey, Memory>
-    ensures { IfOk result (λ stored. stored ≡ key.now) }
-{
-    if key.len() <= LONGEST_INLINE {
-        return Ok(StoredKey::short(&ShortKey::of(key)));
-    }
-    let text = Vec::from_slice(alloc, key)?;
+    text.extend_from_slice(key)?;
     Ok(StoredKey::long(text))
 }

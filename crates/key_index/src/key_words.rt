@@ -11,8 +11,8 @@ use std::marker::Model;
 /// A key of up to `LONGEST_INLINE` bytes, in words.
 ///
 /// A processor that reads bytes in other portions than it has just written them waits for memory,
-/// but words stay in registers while a key is hashed. Each field is a word, since the gaps between
-/// shorter ones would be copied, too, as single bytes.
+/// but words stay in registers while a key is hashed. Each field is a word, so that a copy moves
+/// just these words.
 #[derive(Debug, Drop)]
 pub struct KeyWords {
     /// The first eight bytes of the key and of the zeros behind it, little-endian.
@@ -47,7 +47,7 @@ fn half_word_at(bytes: &[u8], at: usize) -> u32
 
 /// Eight bytes from an index on, as a little-endian word.
 #[inline(always)]
-pub fn word_at(bytes: &[u8], at: usize) -> u64
+fn word_at(bytes: &[u8], at: usize) -> u64
     requires { at + 8 ≤ length bytes.now }
     ensures { to_le_bytes w64 result ≡ slice_range bytes.now at (at + 8) }
 {

@@ -1,6 +1,6 @@
 //! A key as the key map stores it.
 
-ghost use Rattle.std.specs.Prelude.{◌≡◌, ◌≤◌, ◌+◌, length, Some, IfSome, slice_range, true, vec_capacity};
+ghost use Rattle.std.specs.Prelude.{◌≡◌, ◌≤◌, ◌+◌, length, Some, IfOk, IfSome, slice_range, true, vec_capacity};
 ghost use Rattle.std.proofs.Common.{rules};
 ghost use Rattle.std.specs.Cmp as compare;
 ghost use Rattle.std.specs.Cmp.Lexicographic.{nat_list_eq_equiv};
@@ -9,10 +9,12 @@ ghost use Rattle.std.specs.Str.{bytes_eq};
 ghost use Rattle.key_index.specs.Private.StoredKey.{IsCopyOf, bytes_of};
 
 use crate::key_words::KeyWords;
+use lane_words::Memory;
+use std::alloc::Global;
 use std::hash::{Hash, Hasher};
 use std::marker::Model;
 
-/// The longest key stored inline, in bytes: it, its size and the variant tag fill three words.
+/// The longest key stored inline, in bytes: it, its size and the variant tag fill 24 bytes.
 pub const LONGEST_INLINE: usize = 22;
 
 /// Where the bytes of a key are.
@@ -23,8 +25,8 @@ enum Storage {
         bytes: [u8; LONGEST_INLINE],
         size: u8,
     },
-    /// On the heap.
-    Heap(Vec<u8>),
+    /// On the heap. A `Vec` here would make every key eight bytes longer.
+    Heap(Box<Vec<u8>>),
 }
 
 /// A copy of a key of up to `LONGEST_INLINE` bytes.
@@ -84,12 +86,23 @@ impl StoredKey {
     }
 
     /// A key on the heap.
-    pub fn long(text: Vec<u8>) -> StoredKey
-        ensures { result ≡ text.items }
+    pub(crate) fn long(text: Box<Vec<u8>>) -> StoredKey
+        ensures { result ≡ text.value.items }
     {
         StoredKey {
             storage: Storage::Heap(text),
         }
+    }
+
+    /// A copy of a key. A short one allocates nothing.
+    pub fn of(alloc: Global, key: &[u8]) -> Result<StoredKey, Memory>
+        ensures { IfOk result (λ stored. stored ≡ key.now) }
+    {
+        if key.len() <= LONGEST_INLINE {
+            return Ok(StoredKey::of_words(&KeyWords::of(key)));
+        }
+        let text = Box::new(alloc, Vec::from_slice(alloc, key)?)?;
+        Ok(StoredKey::long(text))
     }
 
     /// A short key, from its words. It allocates nothing.
@@ -130,8 +143,8 @@ impl StoredKey {
 
 impl StoredKey {
     /// The memory of a long key, to be used again.
-    pub fn into_text(self) -> Option<Vec<u8>>
-        ensures { IfSome result (λ text. text.items ≡ self) }
+    pub(crate) fn into_text(self) -> Option<Box<Vec<u8>>>
+        ensures { IfSome result (λ text. text.value.items ≡ self) }
     {
         let StoredKey { storage } = self;
         match storage {

@@ -22,7 +22,7 @@ use std::thread::Threads;
 pub const LEAST_KEYS: usize = 4096;
 
 /// The least number of bytes of a file that is worth a thread to read.
-pub const LEAST_BYTES: usize = 1 << 20;
+pub const LEAST_BYTES: usize = 1 << 18;
 
 /// Fewer keys than these are dropped by the calling thread alone.
 pub const LEAST_DROPS: usize = 1 << 18;

@@ -47,6 +47,28 @@ fn write_counts<K: KeyList>(
     Ok(())
 }
 
+/// How many bytes the row of a key with its count takes, unless the key needs quotes.
+fn row_len(key: &[u8], count: u64) -> usize {
+    let digits = count.checked_ilog10().unwrap_or(0) as usize + 1;
+    b"count,,\n".len() + key.len() + digits
+}
+
+/// The most bytes that the row of the totals takes.
+const MOST_TOTAL: usize = b"total,,\n".len() + 2 * 20;
+
+/// How many bytes these rows take with the row of the totals, if no key needs quotes. It only
+/// decides how much memory is reserved: a text that grows takes twice its length.
+fn rows_len<K: KeyList>(keys: &K, counts: &[u64], from: usize, to: usize) -> usize
+    requires len { length (K.keys keys.now) ≡ length counts.now }
+    requires range { (from ≤ to) × (to ≤ length counts.now) }
+{
+    let mut len = MOST_TOTAL;
+    for id in from..to {
+        len = len.saturating_add(row_len(keys.key(id), counts[id]));
+    }
+    len
+}
+
 /// The rows of the keys from number `from` on, below `to`, made on this thread.
 fn rows_sequential<K: KeyList>(
     alloc: Global,
@@ -60,7 +82,7 @@ fn rows_sequential<K: KeyList>(
     ensures { IfOk result (λ text. text.items
         ≡ rows_between (K.keys keys.now) counts.now from to) }
 {
-    let mut writer = rows::new_writer(alloc);
+    let mut writer = rows::writer_for(alloc, rows_len(keys, counts, from, to))?;
     write_counts(&mut writer, keys, counts, from, to)?;
     rows::text_of(writer)
 }

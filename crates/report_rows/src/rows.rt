@@ -18,6 +18,14 @@ pub fn new_writer(alloc: Global) -> Writer<Vec<u8>>
         .from_writer(Vec::new(alloc))
 }
 
+/// A writer of rows into memory, empty at first, with memory for a text of this length.
+pub fn writer_for(alloc: Global, len: usize) -> Result<Writer<Vec<u8>>, Memory>
+    ensures { IfOk result (λ writer. HasText writer []) }
+{
+    let text = Vec::with_capacity(alloc, len)?;
+    Ok(WriterBuilder::new().flexible(true).from_writer(text))
+}
+
 /// Writes a row. The writer is flexible and in memory, so only an allocation can fail.
 pub fn write_row(writer: &mut Writer<Vec<u8>>, fields: &[&[u8]]) -> Result<(), Memory>
     ensures { OnOk result

@@ -1,5 +1,5 @@
 -- A file that is counted within the limits of its logs, window by window.
-use Rattle.std.specs.Prelude.{◌≡◌, ◌⊎◌, ◌≤◌, ◌<◌, ◌+◌, ⊤, ℕ, Bool, true, List, [], ◌++◌, length, take, IfOk, IfSome, Option, Some, None, Result, Ok, Err}
+use Rattle.std.specs.Prelude.{◌≡◌, ◌≤◌, ◌<◌, ◌+◌, ⊤, ℕ, Bool, true, List, [], ◌++◌, length, take, IfOk, IfSome, Option, Some, None, Result, Ok, Err}
 use Rattle.std.specs.Io.KnownBytes.{Consumes, IsAtEnd}
 use Rattle.std.specs.Result.{result_map_both}
 use Rattle.command_line.specs.declared.options.Options.{Options}

@@ -16,7 +16,7 @@ IsCopyOf key copy = (copy.size ≤ LONGEST_INLINE) × (bytes_of copy ≡ key)
 -- the bytes of a key
 abbrev pub bytes_in : Storage → List ℕ
 bytes_in (Inline bytes size) = take size bytes
-bytes_in (Heap text) = text.items
+bytes_in (Heap text) = text.value.items
 
 -- an inline key is no longer than its array
 abbrev pub IsValidStoredKey : Storage → Type 0

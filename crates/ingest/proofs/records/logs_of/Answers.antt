@@ -1,7 +1,6 @@
-use Rattle.std.proofs.Common.{◌≡◌, ◌∙◌, Some, [], None, inr, sym, subst, ap}
-use Rattle.partition_log.specs.Appends.{AreAccepted, placed}
+use Rattle.std.proofs.Common.{◌∙◌, [], inr, sym}
 use Rattle.ingest.specs.Counted.{AreReadFor}
-use Rattle.ingest.specs.Records.{empty_logs, partition_counts}
+use Rattle.ingest.specs.Records.{partition_counts}
 use Rattle.ingest.proofs.Appended.{accepted-empty, none-then}
 use Rattle.ingest.proofs.Failures.{first_fault-kind}
 use Rattle.ingest.proofs.records.logs_of.Goals as goal

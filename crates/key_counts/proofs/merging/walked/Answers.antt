@@ -1,4 +1,4 @@
-use Rattle.std.proofs.Common.{◌≡◌, [], get_or, length, subst, sym, take, false}
+use Rattle.std.proofs.Common.{◌≡◌, get_or, length, subst, sym, take, false}
 use Rattle.std.proofs.lemmas.List.{get_or_read}
 use Rattle.key_counts.specs.Counts.{Entries, no_entries}
 use Rattle.key_counts.specs.Private.Twins.{may_have_twin}

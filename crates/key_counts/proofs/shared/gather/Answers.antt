@@ -34,7 +34,7 @@ loop-code-preserved c =
     let x = drop c.args.skip (key_at keys code) in
     let n = get_or counts code 0 in
     let in_keys : code < length keys = omega (arith, c.requires.part.within) in
-    let long : length counts ≡ length keys = c.counts-all.ensures.len in
+    let long : length counts ≡ length keys = c.requires.counted in
     let px = sym (flag-at p c.args.skip c.args.entries.now _ c.flags_in-flags.result.now code c.requires.flags.flags c.flags_in-flags.ensures in_keys) in
     let more = behind-next c.args.skip keys from code inv.within in_keys in
     let more_counts = slice-more counts from code 0 inv.within (omega (arith, in_keys, long)) in
@@ -48,7 +48,7 @@ loop-code-preserved c =
             (let key : w.behind.result.now ≡ x = w.behind.ensures ∙ ap (drop c.args.skip) w.key.ensures in
             ap (λ (v : Vec (Bor Key) Global). lent v.items) w.keys-is ∙ ap lent w.in_ok-push.ensures.items ∙ map-append now c.loop-code.keys.items (w.behind.result ∷ []) ∙ ap (λ k. lent c.loop-code.keys.items ++ k ∷ []) key);
         counts = counted-yes p c.args.counts.now.items c.loop-code.counts.items _ taken _ before _ x n more more_counts len (px ∙ w.if-flags-code.true) inv.counts
-            (ap (λ (v : Vec ℕ Global). v.items) w.counts-is ∙ w.in_ok-push-2.ensures.items ∙ ap (λ ns. c.loop-code.counts.items ++ get_or ns code 0 ∷ []) c.counts-all.ensures.value);
+            (ap (λ (v : Vec ℕ Global). v.items) w.counts-is ∙ w.in_ok-push-2.ensures.items ∙ ap (λ n. c.loop-code.counts.items ++ n ∷ []) w.count.ensures);
       }
       | else-flags-code w ↦ record {
         within = omega (arith, inv.within);

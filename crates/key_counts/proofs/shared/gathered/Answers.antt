@@ -1,4 +1,4 @@
-use Rattle.std.proofs.Common.{◌≡◌, ◌∙◌, ◌++◌, [], Bool, ap, ap₂, drop, filter, get_or, length, map, sym, take, false}
+use Rattle.std.proofs.Common.{◌≡◌, ◌∙◌, ◌++◌, Bool, ap, ap₂, drop, filter, get_or, length, map, sym, take, false}
 use Rattle.std.proofs.lemmas.List.{get_or_read, length-map}
 use Rattle.std.proofs.lemmas.List.Elements.{All-take, filter-append}
 use Rattle.key_index.specs.Keys.{Key}

@@ -15,8 +15,8 @@ add_entry-requires c =
 
 pub loop-code-preserved : goal.loop-code-preserved
 loop-code-preserved c =
-    adds-entry c.args.self.now c.loop-code.self c.add_entry.new.self c.args.worker.now.keys c.args.worker.now.counts c.counts-counts.result.now c.loop-code.code c.key.result.now
-    c.counts-counts.ensures.value c.counts-counts.ensures.len (omega arith) c.key.ensures c.loop-code.invariant c.add_entry.ensures
+    adds-entry c.args.self.now c.loop-code.self c.add_entry.new.self c.args.worker.now.keys c.args.worker.now.counts c.loop-code.code c.count.result c.key.result.now
+    c.count.ensures (sym c.len-code-end.ensures.counts ∙ c.len-code-end.ensures.keys) (omega arith) c.key.ensures c.loop-code.invariant c.add_entry.ensures
 
 pub returns : goal.returns
 returns c =

@@ -1,4 +1,4 @@
-use Rattle.std.proofs.Common.{◌≡◌, ◌∙◌, List, ap, length, refl}
+use Rattle.std.proofs.Common.{◌≡◌, ◌∙◌, List, ap, length}
 use Rattle.std.specs.Prelude.{◌==◌, not}
 use Rattle.partitioner.specs.declared.topic.Topic.{Topic}
 use Rattle.ingest.specs.Records.{names_topics}

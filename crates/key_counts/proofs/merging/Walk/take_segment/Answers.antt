@@ -19,7 +19,6 @@ loop-code-preserved c =
     let px = ap p (sym key) ∙ sym flag in
     let up : from + (code - from) ≡ code = omega (arith, inv.within) in
     let below : code - from < c.args.segment.to - from = omega (arith, inv.within) in
-    let value : get_or c.args.entries.now.counts code 0 ≡ get_or c.counts-counts.result.now code 0 = ap (λ ns. get_or ns code 0) (sym c.counts-counts.ensures.value) in
     record {
       within = omega (arith, inv.within);
       walked = λ all counts k so next was.
@@ -33,7 +32,7 @@ loop-code-preserved c =
                 let after = w.in_ok-take_shared.ensures (get_or c.args.entries.now.counts code 0) p all counts here (px ∙ w.if-flags-code.true) so at_key before in
                 subst (λ n. IsWalked p all counts n c.if-flags-code.self) more (subst (IsWalked p all counts (here + 1)) (sym w.self-is) after)
             | else-flags-code+in_ok-take_unique w ↦
-                let at_count : IsNext all counts here c.behind-key.result.now (get_or c.counts-counts.result.now code 0) = subst (IsNext all counts here c.behind-key.result.now) value at_key in
+                let at_count : IsNext all counts here c.behind-key.result.now w.count.result = subst (IsNext all counts here c.behind-key.result.now) (sym w.count.ensures) at_key in
                 let after = w.in_ok-take_unique.ensures p all counts here (px ∙ w.if-flags-code.false) so at_count before in
                 subst (λ n. IsWalked p all counts n c.if-flags-code.self) more (subst (IsWalked p all counts (here + 1)) (sym w.self-is) after)
           ];
