@@ -2,7 +2,7 @@
 use Rattle.std.proofs.Common.{◌≡◌, ◌∙◌, ◌++◌, ◌∷◌, [], ℕ, Bool, true, false, List, Result, Ok, Err, Option, Some, None, ap, append-nil, drop, inl, inr, length, refl, subst, sym}
 use Rattle.std.proofs.lemmas.List.{length-map}
 use Rattle.std.specs.Io.KnownBytes.{Consumes, IsAtEnd}
-use Rattle.std.specs.Prelude.{◌⊎◌, IfOk, IfSome, Vec, flat_map, vec_items}
+use Rattle.std.specs.Prelude.{◌⊎◌, IfSome, Vec, flat_map, vec_items}
 use Rattle.std.specs.Global.{Global}
 use Rattle.lane_words.specs.declared.Refusal.{Refusal}
 use Rattle.lane_words.specs.declared.Refusal.TheVariants as r
@@ -16,11 +16,10 @@ use Rattle.partition_log.specs.Keys.{keys_in}
 use Rattle.report_rows.specs.CountRows.{counts_of, listed_rows, plain_text}
 use Rattle.report_rows.specs.Rows.{total_row}
 use Rattle.ingest.specs.Counted.{CountsFile}
-use Rattle.ingest.specs.Private.Columns.{IsRecordsFault}
 use Rattle.ingest.specs.Limits.{records_taken}
 use Rattle.ingest.specs.RecordFaults.{IsKeyFault, fault_or}
 use Rattle.ingest.proofs.Failures.{first_fault-kind}
-use Rattle.ingest.specs.Records.{names_topics, partition_counts, records_of}
+use Rattle.ingest.specs.Records.{names_topics, partition_counts}
 use Rattle.ingest.specs.Reports.{IsFaultOf, IsNoWrite, failed_reads, report_of_read}
 use Rattle.count_report.specs.CountReport.{report_of_count, report_of_records}
 use Rattle.count_report.specs.Private.Counted.{ReportsCounted, TellsCounters, keys_read, skipped, text_of}
@@ -48,10 +47,9 @@ reported options left left2 counting file texts is =
     ap (report_of_read (report_of_records options.top (partition_counts options))) file.records
     ∙ ap (λ fault. fault_or fault (plain_text options.top keys)) file.refused ∙ ap Ok (sym text)
 
-pub reports : {E : Type 0} (options : Options) (counting : Counting) (counters : Counters) (result : Result (Vec (Vec ℕ Global) Global) E) → AreCountersOf counting counters
-    → IfOk result (TellsCounters options counters counting.round.keys) → IfOk result (ReportsCounted options counting)
-reports options counting counters (Err e) counted each = tt
-reports options counting counters (Ok texts) counted each = λ left left2 file.
+pub reports : (options : Options) (counting : Counting) (counters : Counters) (texts : Vec (Vec ℕ Global) Global) → AreCountersOf counting counters
+    → TellsCounters options counters counting.round.keys texts → ReportsCounted options counting texts
+reports options counting counters texts counted each = λ left left2 file.
     reported options left left2 counting file (flat_map vec_items texts.items)
     (each file.counted.keys (counted options.delimiter file.wanted options.header file.read file.counted).0)
 

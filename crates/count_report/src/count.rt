@@ -1,15 +1,17 @@
 //! A count, from a source to a sink.
 
-ghost use Rattle.std.specs.Prelude.{◌≡◌, ◌+◌, ◌++◌, List, None, Ok, IfErr, IfOk, IfSome, flat_map, length, vec_items};
+ghost use Rattle.std.specs.Prelude.{◌≡◌, ◌+◌, ◌++◌, List, None, Ok, IfErr, IfOk, IfSome, OnErr, OnOk, flat_map, length, vec_items};
 ghost use Rattle.count_report.specs.CountReport.{report_of_count};
 ghost use Rattle.count_report.specs.Private.Counted.{ReportsCounted, TellsCounters, skipped};
 ghost use Rattle.report_rows.specs.CountRows.{listed_rows};
 ghost use Rattle.report_rows.specs.Rows.{total_row};
-ghost use Rattle.byte_io.specs.Devices.{CanStillFail};
+ghost use Rattle.std.specs.Io.KnownBytes.{Appends};
+ghost use Rattle.byte_io.specs.Devices.{AppendsPrefix, CanStillFail};
 ghost use Rattle.key_index.specs.Keys.{Key};
 ghost use Rattle.key_stream.specs.Tally.{HaveCounted};
 ghost use Rattle.ingest.specs.Counted.{CountsFile};
 ghost use Rattle.ingest.specs.Records.{names_topics};
+ghost use Rattle.lane_words.specs.declared.Refusal.TheVariants as refusal;
 ghost use Rattle.ingest.specs.Reports.{AreInRange, IsFaultOf, IsNoWrite, WritesAtEndAlone, WritesIfFileKnown, failed_reads, failed_writes};
 
 use byte_io::{Sink, Source, write_texts};
@@ -25,6 +27,7 @@ use report_rows::top_rows::top_text;
 use std::alloc::Global;
 use std::hash::RandomState;
 use std::random::RandomSource;
+use std::thread;
 use std::thread::Threads;
 
 /// The text of a count: the rows of all keys or of the top, and the number of records as both
@@ -89,43 +92,45 @@ fn entries_of(workers: &[KeyCounts]) -> usize {
     entries
 }
 
-/// Drops counters: each on a thread of its own, if they have many entries.
-fn drop_counters<R: Threads + Sync>(rt: &R, workers: Vec<KeyCounts>) {
-    if entries_of(workers.as_slice()) < LEAST_DROPS {
-        return;
-    }
-    drop_each(rt, workers);
+/// The text of a count, in texts to be written one after another, and the counters that it was made
+/// from.
+#[derive(Drop)]
+struct Report {
+    texts: Vec<Vec<u8>>,
+    counters: Vec<KeyCounts>,
 }
 
-/// The text of a count of what was counted of a file, in texts to be written one after another.
+/// The report of what was counted of a file.
 fn counted_report<R: Threads + Sync + RandomSource>(
     rt: &R,
     alloc: Global,
     hasher: RandomState,
     counting: Counting,
     options: &Options,
-) -> Result<Vec<Vec<u8>>, Memory>
+) -> Result<Report, Memory>
     requires { (left left2 : _) × CountsFile options.now left left2 counting None }
-    ensures { IfOk result (ReportsCounted options.now counting) }
+    ensures { IfOk result (λ report. ReportsCounted options.now counting report.texts) }
 {
     let records = counting.round.keys;
     let counters = Counters::of(alloc, counting)?;
-    let texts = texts_of_counters(rt, alloc, hasher, &counters, records, options);
-    drop_counters(rt, counters.workers);
-    texts
+    let texts = texts_of_counters(rt, alloc, hasher, &counters, records, options)?;
+    Ok(Report {
+        texts,
+        counters: counters.workers,
+    })
 }
 
-/// The text of a count of a file, in texts to be written one after another.
+/// The report of a file.
 fn file_report<R: Threads + Sync + RandomSource, S: Source>(
     rt: &R,
     alloc: Global,
     file: &mut S,
     options: &Options,
-) -> Result<Vec<Vec<u8>>, Refusal>
+) -> Result<Report, Refusal>
     requires source { CanStillFail (S.failures file.old) }
     requires options { AreInRange options.now }
-    ensures report { IfOk result (λ texts. IfSome (S.left file.old)
-        (λ bytes. report_of_count options.now bytes ≡ Ok (flat_map vec_items texts.items))) }
+    ensures report { IfOk result (λ report. IfSome (S.left file.old) (λ bytes.
+        report_of_count options.now bytes ≡ Ok (flat_map vec_items report.texts.items))) }
     ensures fault { IfErr result (λ e. IfSome (S.left file.old)
         (λ bytes. IsFaultOf (report_of_count options.now bytes) e)) }
     ensures kind { IfErr result IsNoWrite }
@@ -141,6 +146,38 @@ fn file_report<R: Threads + Sync + RandomSource, S: Source>(
         Ok(Some(refusal)) => Err(refusal),
         Err(fault) => Err(fault),
     }
+}
+
+/// Writes texts, while counters are dropped: each on a thread of its own.
+fn write_and_drop<R: Threads + Sync, K: Sink>(
+    rt: &R,
+    out: &mut K,
+    texts: &[Vec<u8>],
+    counters: Vec<KeyCounts>,
+) -> Result<(), Refusal>
+    requires { CanStillFail (K.failures out.old) }
+    ensures ok { OnOk result
+        (Appends (K.written out.old) (K.written out.new) (flat_map vec_items texts.now)) }
+    ensures no_failures { OnOk result (K.failures out.new ≡ K.failures out.old) }
+    ensures kind { IfErr result (λ e. e ≡ refusal.WriteFailed) }
+    ensures failures { OnErr result (K.failures out.new ≡ K.failures out.old + 1) }
+    ensures err { OnErr result (AppendsPrefix
+        (K.written out.old) (K.written out.new) (flat_map vec_items texts.now)) }
+{
+    if entries_of(counters.as_slice()) < LEAST_DROPS {
+        return write_texts(out, texts);
+    }
+    let mut counters = Some(counters);
+    let ((), written) = thread::join_mut(
+        rt,
+        &mut || {
+            if let Some(counters) = counters.take() {
+                drop_each(rt, counters);
+            }
+        },
+        &mut || write_texts(out, texts),
+    );
+    written
 }
 
 /// Counts how often each key occurs in a CSV file, and writes a row for each key, in the order of
@@ -175,8 +212,8 @@ pub fn count_text<R: Threads + Sync + RandomSource, S: Source, K: Sink>(
     ensures reads { S.failures file.new ≡ S.failures file.old + failed_reads result }
     ensures writes { K.failures out.new ≡ K.failures out.old + failed_writes result }
 {
-    let texts = file_report(rt, alloc, file, options)?;
-    let written = write_texts(out, texts.as_slice());
+    let Report { texts, counters } = file_report(rt, alloc, file, options)?;
+    let written = write_and_drop(rt, out, texts.as_slice(), counters);
     drop_each(rt, texts);
     written
 }

@@ -1,11 +1,11 @@
 use Rattle.count_report.proofs.Reported.{reports}
 use Rattle.count_report.proofs.count.counted_report.Goals as goal
 
-pub texts_of_counters-texts-requires-after_bounds : goal.texts_of_counters-texts-requires-after_bounds
-texts_of_counters-texts-requires-after_bounds g c κs within =
+pub texts_of_counters-requires-after_bounds : goal.texts_of_counters-requires-after_bounds
+texts_of_counters-requires-after_bounds g c κs within =
     let file = c.requires.2 in
     let options = c.args.options.now in
     (file.counted.keys, (c.in_ok-counters.ensures options.delimiter file.wanted options.header file.read file.counted).0)
 
 pub returns : goal.returns
-returns g c = reports c.args.options.now c.args.counting _ c.texts_of_counters-texts.result c.in_ok-counters.ensures c.texts_of_counters-texts.ensures
+returns g c = reports c.args.options.now c.args.counting _ c.in_ok-texts.texts c.in_ok-counters.ensures c.in_ok-texts.ensures
