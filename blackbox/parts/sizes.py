@@ -114,11 +114,11 @@ def peak_memory(process: int) -> int:
     return next(int(line.split()[1]) * 1024 for line in lines if line.startswith("VmHWM:"))
 
 
-def stream_faults(blocks: int, records: int, length: int) -> Iterator[str]:
-    """So many blocks through a pipe, of so many records of this length: their counts, in memory that has nothing to do with how
-    many there are."""
-    keys = [b"%04d" % n for n in range(records)]
-    block = b"".join(b"%s,%s\n" % (key, b"z" * (length - 6)) for key in keys)
+def stream_faults(blocks: int, records: int, length: int, digits: int = 4) -> Iterator[str]:
+    """So many blocks through a pipe, of so many records of this length, with keys of so many digits: their counts, in memory that
+    has nothing to do with how many there are."""
+    keys = [b"%0*d" % (digits, n) for n in range(records)]
+    block = b"".join(b"%s,%s\n" % (key, b"z" * (length - digits - 2)) for key in keys)
     most = (24 + 8 * (os.cpu_count() or 1)) * MIB
     with subprocess.Popen([program(), "count", "-"], stdin=subprocess.PIPE, stdout=subprocess.PIPE) as job:
         for _ in range(blocks):
@@ -135,6 +135,7 @@ def stream_faults(blocks: int, records: int, length: int) -> Iterator[str]:
 def file_sizes() -> Cases:
     yield "a count of 400 MB through a pipe", stream_faults(400, 10_000, 100)
     yield "the same of records of 100,000 bytes", stream_faults(400, 10, 100_000)
+    yield "the same of keys of 90 bytes", stream_faults(400, 10_000, 100, 90)
     for power in range(5, 24):
         yield f"a file and an output of about {1 << power} bytes", size_faults(power)
     for size in (MIB, 2 * MIB, 4 * MIB, 8 * MIB):
