@@ -1,5 +1,6 @@
 pub mod ByteSearch
 pub mod Cuts
+pub mod FieldEnds
 pub mod Fields
 pub mod Header
 pub mod KeyFile

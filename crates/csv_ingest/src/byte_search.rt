@@ -1,9 +1,7 @@
-//! Where the first of up to three bytes is, found 16 bytes at a time. Most are close: the end of a
-//! field without quotes, or the next double quote of one in quotes.
+//! Where the first of up to three bytes is, found 16 bytes at a time: most are close.
 
-ghost use Rattle.std.specs.Prelude.{◌≡◌, ◌↔◌, ◌<◌, ◌≤◌, ◌+◌, ℕ, IfNone, IfSome, get_or, length, true};
-ghost use Rattle.std.specs.Int.{bit_at};
-ghost use Rattle.csv_ingest.specs.Private.ByteSearch.{HasNone, IsFirstFrom, is_any};
+ghost use Rattle.std.specs.Prelude.{◌≡◌, ◌≤◌, ◌+◌, IfNone, IfSome, length};
+ghost use Rattle.csv_ingest.specs.Private.ByteSearch.{HasMarks, HasNone, IsFirstFrom, is_any};
 ghost use Rattle.memchr.specs.Find.{IsFirstByte, is_byte};
 
 use std::simd::prelude::*;
@@ -18,17 +16,17 @@ fn is_any(byte: u8, a: u8, b: u8, c: u8) -> bool
     byte == a || byte == b || byte == c
 }
 
-/// Which of the 16 bytes from here on are one of three, as a bit for each.
+/// Which of the `N` bytes from here on are one of three, as a bit for each.
 #[inline(always)]
-fn marks_among(text: &[u8], at: usize, a: u8, b: u8, c: u8) -> u64
-    requires { at + 16 ≤ length text.now }
-    ensures { (k : ℕ) → (bit_at result k ≡ 1)
-        ↔ ((k < 16) × (is_any a b c (get_or text.now (at + k) 0) ≡ true)) }
+pub fn marks_among<const N: usize>(text: &[u8], at: usize, a: u8, b: u8, c: u8) -> u64
+    requires text { at + N ≤ length text.now }
+    requires lanes { N ≤ 64 }
+    ensures { HasMarks N a b c text.now at result }
 {
-    let bytes = u8x16::from_slice(&text[at..]);
-    let marks = bytes.simd_eq(u8x16::splat(a))
-        | bytes.simd_eq(u8x16::splat(b))
-        | bytes.simd_eq(u8x16::splat(c));
+    let bytes = Simd::<u8, N>::from_slice(&text[at..]);
+    let marks = bytes.simd_eq(Simd::<u8, N>::splat(a))
+        | bytes.simd_eq(Simd::<u8, N>::splat(b))
+        | bytes.simd_eq(Simd::<u8, N>::splat(c));
     marks.to_bitmask()
 }
 
@@ -39,7 +37,7 @@ fn first_among(text: &[u8], at: usize, a: u8, b: u8, c: u8) -> Option<usize>
     ensures found { IfSome result (λ first. IsFirstFrom a b c text.now at first) }
     ensures none { IfNone result (HasNone a b c text.now at (at + 16)) }
 {
-    let marks = marks_among(text, at, a, b, c);
+    let marks = marks_among::<LANES>(text, at, a, b, c);
     if marks == 0 {
         return None;
     }
@@ -61,7 +59,7 @@ fn first_by_bytes(text: &[u8], at: usize, a: u8, b: u8, c: u8) -> usize
 
 /// Where the first of three bytes is from here on, or else the end of the text.
 #[inline(always)]
-fn first_of(text: &[u8], start: usize, a: u8, b: u8, c: u8) -> usize
+pub fn first_of(text: &[u8], start: usize, a: u8, b: u8, c: u8) -> usize
     requires { start ≤ length text.now }
     ensures { IsFirstFrom a b c text.now start result }
 {
@@ -73,15 +71,6 @@ fn first_of(text: &[u8], start: usize, a: u8, b: u8, c: u8) -> usize
         at += LANES;
     }
     first_by_bytes(text, at, a, b, c)
-}
-
-/// Where a field that goes on here without quotes ends.
-#[inline(always)]
-pub fn field_end(text: &[u8], delimiter: u8, start: usize) -> usize
-    requires { start ≤ length text.now }
-    ensures { IsFirstFrom delimiter 13 10 text.now start result }
-{
-    first_of(text, start, delimiter, b'\r', b'\n')
 }
 
 /// Where the first double quote is, if there is one.

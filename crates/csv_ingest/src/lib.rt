@@ -18,6 +18,7 @@
 mod byte_search;
 mod chunk;
 mod cuts;
+mod field_ends;
 mod header;
 mod lack;
 mod laws;

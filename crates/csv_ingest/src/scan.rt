@@ -5,6 +5,7 @@ ghost use Rattle.std.specs.Prelude.{◌≡◌, ◌≢◌, ◌≤◌, ◌<◌, �
 ghost use Rattle.csv.specs.declared.parser.State.TheVariants as st;
 ghost use Rattle.csv_ingest.specs.KeyFile.{IsFileFault, Record, key_in, taken_of};
 ghost use Rattle.csv_ingest.specs.Pieces.{bom_length, file_records, piece_keys};
+ghost use Rattle.csv_ingest.specs.Private.FieldEnds.{AreEnds};
 ghost use Rattle.csv_ingest.specs.Private.Fields.{EndsField, IsRow, IsWhole, ReadsField, ReadsKey, ReadsRow, kept, key_of};
 ghost use Rattle.csv_ingest.specs.Private.Pieces.{IsWidthOf};
 ghost use Rattle.csv_ingest.specs.Private.KeyFile.{IsFaultAt};
@@ -12,8 +13,9 @@ ghost use Rattle.csv_ingest.specs.Private.Wanted.{taking};
 ghost use Rattle.csv_ingest.specs.Sinks.{TakesFound};
 ghost use Rattle.lane_words.specs.declared.Refusal.TheVariants as refusal;
 
-use crate::byte_search::{field_end, find_quote};
+use crate::byte_search::find_quote;
 use crate::cuts::mark_length;
+use crate::field_ends::FieldEnds;
 use crate::piece::take_piece;
 use crate::sink::KeySink;
 use crate::stand::is_line_end;
@@ -32,11 +34,14 @@ fn is_at(text: &[u8], at: usize, byte: u8) -> bool
 
 /// Where a field that goes on here without quotes ends.
 #[inline(always)]
-fn bare_end(text: &[u8], delimiter: u8, at: usize) -> usize
-    requires { at ≤ length text.now }
-    ensures { EndsField delimiter st.InField text.now at result (slice_range text.now at result) }
+fn bare_end(text: &[u8], delimiter: u8, ends: &mut FieldEnds, at: usize) -> usize
+    requires at { at ≤ length text.now }
+    requires ends { AreEnds delimiter text.now ends.old }
+    ensures field { EndsField delimiter st.InField text.now at result
+        (slice_range text.now at result) }
+    ensures ends { AreEnds delimiter text.now ends.new }
 {
-    field_end(text, delimiter, at)
+    ends.first_from(text, delimiter, at)
 }
 
 /// Keeps bytes of a field where they are wanted.
@@ -53,15 +58,18 @@ fn keep(bytes: &[u8], wanted: bool, key: &mut Vec<u8>) -> Result<(), Memory>
 fn read_bare(
     text: &[u8],
     delimiter: u8,
+    ends: &mut FieldEnds,
     at: usize,
     wanted: bool,
     key: &mut Vec<u8>,
 ) -> Result<usize, Memory>
-    requires { at ≤ length text.now }
-    ensures { IfOk result
+    requires at { at ≤ length text.now }
+    requires ends { AreEnds delimiter text.now ends.old }
+    ensures field { IfOk result
         (λ end. ReadsField delimiter st.InField text.now at end wanted key.old.items key.new.items) }
+    ensures ends { AreEnds delimiter text.now ends.new }
 {
-    let end = bare_end(text, delimiter, at);
+    let end = bare_end(text, delimiter, ends, at);
     keep(&text[at..end], wanted, key)?;
     Ok(end)
 }
@@ -71,21 +79,24 @@ fn read_bare(
 fn read_quoted(
     text: &[u8],
     delimiter: u8,
+    ends: &mut FieldEnds,
     start: usize,
     wanted: bool,
     key: &mut Vec<u8>,
 ) -> Result<usize, Memory>
-    requires { start ≤ length text.now }
-    ensures { IfOk result
+    requires start { start ≤ length text.now }
+    requires ends { AreEnds delimiter text.now ends.old }
+    ensures field { IfOk result
         (λ end. ReadsField delimiter st.InQuoted text.now start end wanted
         key.old.items key.new.items) }
+    ensures ends { AreEnds delimiter text.now ends.new }
 {
     let mut at = start;
     'quotes: while let Some(more) = find_quote(&text[at..]) {
         let quote = at + more;
         if !is_at(text, quote + 1, b'"') {
             keep(&text[at..quote], wanted, key)?;
-            return read_bare(text, delimiter, quote + 1, wanted, key);
+            return read_bare(text, delimiter, ends, quote + 1, wanted, key);
         }
         keep(&text[at..quote + 1], wanted, key)?;
         at = quote + 2;
@@ -142,30 +153,42 @@ impl<'t> Row<'t> {
         &mut self,
         text: &'t [u8],
         delimiter: u8,
+        ends: &mut FieldEnds,
         at: usize,
         wanted: bool,
     ) -> Result<usize, Memory>
-        requires { (at < length text.now) × (get_or text.now at 0 ≡ 34) }
+        requires at { (at < length text.now) × (get_or text.now at 0 ≡ 34) }
+        requires ends { AreEnds delimiter text.now ends.old }
         ensures count { OnOk result (self.new.count ≡ self.old.count) }
         ensures key { IfOk result
             (λ end. ReadsKey delimiter text.now at end wanted self.old self.new) }
+        ensures ends { AreEnds delimiter text.now ends.new }
     {
         if wanted {
             self.place = Place::Buffer;
             self.buffer.clear();
-            return read_quoted(text, delimiter, at + 1, true, &mut self.buffer);
+            return read_quoted(text, delimiter, ends, at + 1, true, &mut self.buffer);
         }
-        read_quoted(text, delimiter, at + 1, false, &mut self.buffer)
+        read_quoted(text, delimiter, ends, at + 1, false, &mut self.buffer)
     }
 
     /// Reads the field at hand, which starts here without quotes, and tells where it ends.
     #[inline(always)]
-    fn read_without(&mut self, text: &'t [u8], delimiter: u8, at: usize, wanted: bool) -> usize
-        requires { (at < length text.now) × (get_or text.now at 0 ≢ 34) }
+    fn read_without(
+        &mut self,
+        text: &'t [u8],
+        delimiter: u8,
+        ends: &mut FieldEnds,
+        at: usize,
+        wanted: bool,
+    ) -> usize
+        requires at { (at < length text.now) × (get_or text.now at 0 ≢ 34) }
+        requires ends { AreEnds delimiter text.now ends.old }
         ensures count { self.new.count ≡ self.old.count }
         ensures key { ReadsKey delimiter text.now at result wanted self.old self.new }
+        ensures ends { AreEnds delimiter text.now ends.new }
     {
-        let end = bare_end(text, delimiter, at);
+        let end = bare_end(text, delimiter, ends, at);
         if wanted {
             self.place = Place::Text(&text[at..end]);
         }
@@ -178,19 +201,22 @@ impl<'t> Row<'t> {
         &mut self,
         text: &'t [u8],
         delimiter: u8,
+        ends: &mut FieldEnds,
         at: usize,
         column: usize,
     ) -> Result<usize, Memory>
-        requires { at < length text.now }
+        requires at { at < length text.now }
+        requires ends { AreEnds delimiter text.now ends.old }
         ensures count { OnOk result (self.new.count ≡ self.old.count) }
         ensures field { IfOk result
             (λ end. ReadsRow delimiter text.now at end column self.old self.new) }
+        ensures ends { AreEnds delimiter text.now ends.new }
     {
         let wanted = self.count == column;
         if text[at] == b'"' {
-            self.read_in_quotes(text, delimiter, at, wanted)
+            self.read_in_quotes(text, delimiter, ends, at, wanted)
         } else {
-            Ok(self.read_without(text, delimiter, at, wanted))
+            Ok(self.read_without(text, delimiter, ends, at, wanted))
         }
     }
 
@@ -257,13 +283,14 @@ fn scan<K: KeySink>(
     ensures kind { IfErr result IsFileFault }
 {
     let mut row = Row::new(alloc);
+    let mut ends = FieldEnds::none();
     let mut at = 0;
     let mut taken = 0;
     while at < text.len() {
         if row.count == 0 && is_line_end(text[at]) {
             at += 1;
         } else {
-            let end = row.read_field(text, delimiter, at, column)?;
+            let end = row.read_field(text, delimiter, &mut ends, at, column)?;
             if is_at(text, end, delimiter) {
                 row.go_on();
             } else {

@@ -1,9 +1,15 @@
 -- Where the first of up to three bytes is, and which bytes end a field without quotes.
-use Rattle.std.specs.Prelude.{◌≡◌, ◌<◌, ◌≤◌, ◌==◌, ◌||◌, ℕ, Bool, false, true, List, get_or, length}
+use Rattle.std.specs.Prelude.{◌≡◌, ◌↔◌, ◌<◌, ◌≤◌, ◌+◌, ◌==◌, ◌||◌, ℕ, Bool, false, true, List, get_or, length}
+use Rattle.std.specs.Int.{bit_at}
 
 -- whether a byte is one of three
 abbrev pub is_any : ℕ → ℕ → ℕ → ℕ → Bool
 is_any a b c x = (x == a) || ((x == b) || (x == c))
+
+-- of so many bytes from a place on, the bits of a number tell which are one of three
+abbrev pub HasMarks : ℕ → ℕ → ℕ → ℕ → List ℕ → ℕ → ℕ → Type 0
+HasMarks lanes a b c text at marks = (k : ℕ) → (bit_at marks k ≡ 1)
+    ↔ ((k < lanes) × (is_any a b c (get_or text (at + k) 0) ≡ true))
 
 -- no byte from one place up to another is one of three
 abbrev pub HasNone : ℕ → ℕ → ℕ → List ℕ → ℕ → ℕ → Type 0

@@ -4,13 +4,13 @@ use Rattle.csv_ingest.specs.Private.ByteSearch.{HasNone}
 use Rattle.csv_ingest.proofs.Fields.{Goes, bare-run, end-here}
 use Rattle.csv_ingest.proofs.scan.bare_end.Goals as goal
 
-pub returns : goal.returns
-returns c =
-    let end = c.field_end.ensures in
+pub returns-clause-field : goal.returns-clause-field
+returns-clause-field c =
+    let end = c.first_from.ensures.first in
     let d = c.args.delimiter in
     let text = c.args.text.now in
     let at = c.args.at in
-    let to = c.field_end.result in
+    let to = c.first_from.result in
     let there : at + (to - at) ≡ to = omega (arith, end.order) in
     record {
       order = end.order;

@@ -3,8 +3,8 @@ use Rattle.csv.proofs.WriteFacts.{slice-end}
 use Rattle.csv_ingest.proofs.Fields.{inside-text, none-before, none-left, ok-then, quote-there, quoted-end, quoted-on, quotes-closed, quotes-on, quotes-open}
 use Rattle.csv_ingest.proofs.scan.read_quoted.Goals as goal
 
-pub returns-then-not-is_at : goal.returns-then-not-is_at
-returns-then-not-is_at c =
+pub returns-then-not-is_at-clause-field : goal.returns-then-not-is_at-clause-field
+returns-then-not-is_at-clause-field c =
     let text = c.args.text.now in
     let at = c.quotes.at in
     let n = c.in-Some.more in
@@ -18,7 +18,7 @@ returns-then-not-is_at c =
     (λ end reads.
     quotes-closed c.args.delimiter text c.args.start at (at + n + 1) end c.args.wanted c.args.key.now.items c.quotes.key.items c.keep.new.key.items c.read_bare.new.key.items (slice_range text at (at + n))
     c.quotes.invariant.low (omega arith) c.quotes.invariant.reads goes c.in_ok-keep.ensures reads)
-    c.read_bare.ensures
+    c.read_bare.ensures.field
 
 pub quotes-preserved : goal.quotes-preserved
 quotes-preserved c =
@@ -33,12 +33,13 @@ quotes-preserved c =
     record {
       low = omega (arith, c.quotes.invariant.low);
       within = omega (arith, second.0);
+      ends = c.quotes.invariant.ends;
       reads = quotes-on c.args.delimiter text c.args.start at (at + n + 2) c.args.wanted c.args.key.now.items c.quotes.key.items c.keep-in-Some.new.key.items (slice_range text at (at + n + 1))
           c.quotes.invariant.reads (quoted-on c.args.delimiter text at n second.0 plain first second.1) c.in_ok-keep-2.ensures;
     }
 
-pub returns : goal.returns
-returns c =
+pub returns-clause-field : goal.returns-clause-field
+returns-clause-field c =
     let text = c.args.text.now in
     let at = c.quotes.at in
     let plain = none-left text (slice_range text at (length text)) at (slice-end text at) c.in_default.ensures in

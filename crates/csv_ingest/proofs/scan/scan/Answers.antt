@@ -9,6 +9,7 @@ loop-at-init g c = record {
   few = omega arith;
   count = omega (arith, c.new-row.ensures.none);
   far = omega arith;
+  ends = c.none-ends.ensures c.args.delimiter c.args.text.now;
   reads = (
     [],
     refl,
@@ -25,6 +26,7 @@ loop-at-preserved-then-is_line_end g c =
       few = omega (arith, inv.few);
       count = omega (arith, inv.count);
       far = omega (arith, c.loop-at-test.true);
+      ends = inv.ends;
       reads = (
         far.0,
         far.1,
@@ -64,6 +66,7 @@ loop-at-preserved g c =
             few = omega (arith, inv.few, field.ends.order);
             count = omega (arith, w.go_on.ensures.count, c.in_ok-end.ensures.count, inv.count, field.ends.order);
             far = omega (arith, there.0);
+            ends = c.read_field.ensures.ends;
             reads = (
               so.0,
               so.1,
@@ -81,6 +84,7 @@ loop-at-preserved g c =
             few = omega (arith, inv.few, field.ends.order);
             count = omega (arith, w.start_over.ensures.none);
             far = omega (arith, field.ends.within);
+            ends = c.read_field.ensures.ends;
             reads = (
               more,
               omega (arith, so.1, length-append so.0 (key ∷ [])),

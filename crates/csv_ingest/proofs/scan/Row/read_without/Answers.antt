@@ -9,7 +9,7 @@ returns-then-wanted-clause-key c =
     let text = c.args.text.now in
     let end = c.bare_end-end.result in
     let old = c.args.self.now in
-    key-without c.args.delimiter text c.args.at end c.args.wanted old _ c.requires.0 c.requires.1 c.bare_end-end.ensures
+    key-without c.args.delimiter text c.args.at end c.args.wanted old _ c.requires.at.0 c.requires.at.1 c.bare_end-end.ensures.field
     (sym (ap (λ b. if b then slice_range text c.args.at end else key_of old) c.if-wanted.true))
 
 pub returns-else-wanted-clause-key : goal.returns-else-wanted-clause-key
@@ -17,5 +17,5 @@ returns-else-wanted-clause-key c =
     let text = c.args.text.now in
     let end = c.bare_end-end.result in
     let old = c.args.self.now in
-    key-without c.args.delimiter text c.args.at end c.args.wanted old old c.requires.0 c.requires.1 c.bare_end-end.ensures
+    key-without c.args.delimiter text c.args.at end c.args.wanted old old c.requires.at.0 c.requires.at.1 c.bare_end-end.ensures.field
     (sym (ap (λ b. if b then slice_range text c.args.at end else key_of old) c.if-wanted.false))
