@@ -104,13 +104,15 @@ pub fn cut_behind(before: &[u8], next: &[u8], delimiter: u8) -> Option<usize>
     open_cut(next, stand, delimiter)
 }
 
-/// A file in at most `pieces` pieces; 0 are one. All but the last have about `step` bytes.
+/// A file in at most `pieces` pieces; 0 are one. All but the last have about `step` bytes, or as many
+/// as leave `left` to it.
 pub fn pieces_of(
     alloc: Global,
     file: &[u8],
     delimiter: u8,
     pieces: usize,
     step: usize,
+    left: usize,
 ) -> Result<Vec<&[u8]>, Memory>
     requires { is_line_end delimiter ≡ false }
     ensures { IfOk result (λ found. ArePieces delimiter file.now (lent found.items)) }
@@ -118,7 +120,7 @@ pub fn pieces_of(
     let mut found = Vec::new(alloc);
     let mut rest = file;
     for _piece in 1..pieces {
-        let aim = step.max(MARK).min(rest.len());
+        let aim = step.max(MARK).min(rest.len().saturating_sub(left));
         let Some(more) = cut_behind(&rest[..aim], &rest[aim..], delimiter) else {
             break;
         };

@@ -92,7 +92,7 @@ pub fn has_header(alloc: Global, text: &[u8], delimiter: u8) -> Result<bool, Mem
     requires { is_line_end delimiter ≡ false }
     ensures { IfOk result (λ has. has ≡ true → HasHeader delimiter text.now) }
 {
-    let pieces = pieces_of(alloc, text, delimiter, 2, text.len() / 2)?;
+    let pieces = pieces_of(alloc, text, delimiter, 2, text.len() / 2, 0)?;
     if pieces.len() < 2 {
         return Ok(false);
     }

@@ -1,7 +1,7 @@
 -- How much each worker has.
-use Rattle.std.proofs.Common.{◌≡◌, ◌∙◌, ◌+◌, ◌<◌, ℕ, false, List, [], ◌∷◌, ◌++◌, length, map, take, get_or, sym, ap, ap₂, arith}
-use Rattle.std.proofs.lemmas.List.{get_or-map, length-map, map-append, take_all, take_more}
-use Rattle.key_counts.specs.Counts.{Entries, no_entries, records_of}
+use Rattle.std.proofs.Common.{◌≡◌, ◌∙◌, ◌+◌, ◌<◌, ℕ, List, [], ◌∷◌, ◌++◌, length, map, take, get_or, sym, ap, ap₂}
+use Rattle.std.proofs.lemmas.List.{length-map, map-append, take_more}
+use Rattle.key_counts.specs.Counts.{Entries, records_of}
 use Rattle.key_counts.specs.Partition.{lens_of}
 use Rattle.key_counts.specs.Recorded.{all_records, as_records}
 use Rattle.key_stream.specs.Rounds.{entries_in}

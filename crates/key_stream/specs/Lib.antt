@@ -1,3 +1,4 @@
+pub mod Ahead
 pub mod Chunks
 pub mod Counting
 pub mod Founds

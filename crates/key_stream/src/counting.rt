@@ -13,6 +13,7 @@ ghost use Rattle.key_stream.specs.Rounds.{entries_in};
 ghost use Rattle.key_stream.specs.Splits.{IsSplitOf};
 ghost use Rattle.lane_words.specs.declared.Refusal.TheVariants as refusal;
 
+use crate::ahead::ReadAhead;
 use crate::round::{Round, take_first};
 use crate::segments::{add_segments, entry_counts, record_counts};
 use crate::worker::{Layout, Worker};
@@ -25,6 +26,11 @@ use std::thread::Threads;
 
 /// About how many bytes of a window are left to the next one, if more of the file follows.
 const LEFT: usize = 1 << 16;
+
+/// By one part in so many the last chunk is shorter than the others, since its thread reads the
+/// next window first. That takes a sixth of a chunk's time for short keys, and three fifths for
+/// quoted records.
+const SHORTER: usize = 4;
 
 /// What was counted of a file so far.
 #[derive(Drop)]
@@ -112,8 +118,17 @@ fn chunks_for(workers: usize, len: usize, least: usize) -> usize
     workers.min(len / least.max(1)).max(1)
 }
 
-/// A text in so many chunks at most, of about the same length. If more of the file follows, one piece
-/// comes behind them: some `LEFT` bytes, or as many as a chunk if no record ends in these.
+/// How long the chunks of so many bytes are. If more of the file is to be read, the last one, which
+/// has what the others leave, is shorter.
+fn chunk_length(len: usize, chunks: usize, at_end: bool) -> usize {
+    if at_end || chunks < 2 {
+        return len / chunks.max(1);
+    }
+    len.saturating_mul(SHORTER) / (chunks.saturating_mul(SHORTER) - 1)
+}
+
+/// A text in so many chunks at most, of `chunk_length` bytes. If more of the file follows, one
+/// piece comes behind them: some `LEFT` bytes, or as many as a chunk if no record ends in these.
 fn pieces_in<'t>(
     alloc: Global,
     text: &'t [u8],
@@ -130,12 +145,12 @@ fn pieces_in<'t>(
     } else {
         LEFT.min(text.len() / most)
     };
-    let step = (text.len() - left) / chunks.max(1);
-    let pieces = pieces_of(alloc, text, delimiter, most, step)?;
+    let step = chunk_length(text.len() - left, chunks, at_end);
+    let pieces = pieces_of(alloc, text, delimiter, most, step, left)?;
     if at_end || pieces.len() > 1 {
         return Ok(pieces);
     }
-    pieces_of(alloc, text, delimiter, most, text.len() / most)
+    pieces_of(alloc, text, delimiter, most, text.len() / most, 0)
 }
 
 impl Counting {
@@ -170,15 +185,17 @@ impl Counting {
         })
     }
 
-    /// Takes the first pieces of a text, one for each worker at most.
-    fn take_pieces<R: Threads + Sync>(
+    /// Takes the first pieces of a text, one for each worker at most, and reads ahead.
+    fn take_pieces<R: Threads + Sync, A: ReadAhead>(
         &mut self,
         rt: &R,
         alloc: Global,
         pieces: &[&[u8]],
         count: usize,
         layout: &Layout<'_>,
+        ahead: &mut A,
     ) -> Result<(), Refusal>
+        requires ahead { A.can_read ahead.old }
         requires marks { HasMarks self.old }
         requires count { (count ≤ vec_len self.old.workers) × (count ≤ length pieces.now) }
         ensures marks { OnOk result (HasMarks self.new) }
@@ -188,6 +205,7 @@ impl Counting {
             (TakesPiecesBy layout.now (lent pieces.now) count self.old self.new) }
         ensures err { IfErr result (λ e. (e ≡ refusal.Memory)
             ⊎ HasFaultBy layout.now self.old.round (lent pieces.now) count e) }
+        ensures ahead { A.has_read ahead.old ahead.new }
     {
         let Counting {
             workers,
@@ -206,6 +224,7 @@ impl Counting {
             pieces,
             layout,
             *round,
+            ahead,
         ) {
             Ok(next) => *round = next,
             Err(fault) => return Err(fault),
@@ -245,15 +264,17 @@ impl Counting {
         })
     }
 
-    /// Takes the chunks of a split text, each in a thread of its own; one alone is taken by the
-    /// calling thread. Fails with the fault of the first bad record.
-    pub fn take<R: Threads + Sync>(
+    /// Takes the chunks of a split text, each in a thread of its own: the last one in the calling
+    /// thread, which reads ahead first. Fails with the fault of the first bad record.
+    pub(crate) fn take<R: Threads + Sync, A: ReadAhead>(
         &mut self,
         rt: &R,
         alloc: Global,
         split: &Split<'_>,
         layout: &Layout<'_>,
+        ahead: &mut A,
     ) -> Result<(), Refusal>
+        requires ahead { A.can_read ahead.old }
         requires marks { HasMarks self.old }
         requires split { (split.now.count ≤ vec_len self.old.workers)
             × (split.now.count ≤ vec_len split.now.pieces) }
@@ -263,10 +284,19 @@ impl Counting {
         ensures ok { OnOk result (TakesSplitBy layout.now split.now self.old self.new) }
         ensures err { IfErr result (λ e. (e ≡ refusal.Memory)
             ⊎ HasFaultInSplit layout.now split.now self.old e) }
+        ensures ahead { A.has_read ahead.old ahead.new }
     {
         if split.count == 0 {
+            ahead.read();
             return Ok(());
         }
-        self.take_pieces(rt, alloc, split.pieces.as_slice(), split.count, layout)
+        self.take_pieces(
+            rt,
+            alloc,
+            split.pieces.as_slice(),
+            split.count,
+            layout,
+            ahead,
+        )
     }
 }

@@ -2,16 +2,17 @@
 //!
 //! It promises:
 //! - `Window` has the bytes that were read and not yet taken, and `refill` reads on.
-//! - `Counting::split` splits a text into chunks, and `Counting::take` counts them, a thread for
+//! - `Counting::split` splits a text into chunks, and `take_and_read` counts them, a thread for
 //!   each, or a short text in the calling thread: what is counted are the keys of the bytes that
-//!   were taken, and a fault is that of the file's first bad record.
-//! - `take_and_read` does so while it reads on into the next window.
+//!   were taken, and a fault is that of the file's first bad record. It also reads on into the
+//!   next window.
 //! - `Counters::totals` returns the distinct keys in the order of their first appearance, and how
 //!   often each occurs.
 //!
 //! Tests: `report_tests`.
 #![tactic(auto)]
 
+mod ahead;
 mod counting;
 mod overlap;
 mod round;

@@ -5,6 +5,7 @@ ghost use Rattle.csv_ingest.specs.Private.Wanted.{taking};
 ghost use Rattle.key_stream.specs.Chunks.{TakesChunk};
 ghost use Rattle.key_stream.specs.Layouts.{TakesChunkBy, TakesEachBy};
 
+use crate::ahead::ReadAhead;
 use csv_ingest::{Wanted, take_chunk};
 use key_counts::KeyCounter;
 use lane_words::Refusal;
@@ -71,27 +72,33 @@ impl Worker {
 }
 
 /// Each worker takes its chunk: the last one in the calling thread, which starts a thread for each
-/// of the others.
+/// of the others, and reads ahead before its own chunk.
 #[cycle(workers)]
-pub fn work_parallel<R: Threads + Sync>(
+pub fn work_parallel<R: Threads + Sync, A: ReadAhead>(
     rt: &R,
     alloc: Global,
     workers: &mut [Worker],
     chunks: &[&[u8]],
     widths: &[Option<usize>],
     layout: &Layout<'_>,
+    ahead: &mut A,
 )
+    requires ahead { A.can_read ahead.old }
     requires chunks { length workers.old ≡ length chunks.now }
     requires widths { length chunks.now ≤ length widths.now }
     ensures len { length workers.new ≡ length workers.old }
     ensures each { TakesEachBy layout.now widths.now chunks.now workers.old workers.new }
+    ensures ahead { A.has_read ahead.old ahead.new }
 {
     let Some((worker, workers)) = workers.split_first_mut() else {
+        ahead.read();
         return;
     };
     let (chunk, chunks) = (chunks[0], &chunks[1..]);
     let (width, widths) = (widths[0], &widths[1..]);
     if workers.is_empty() {
+        // A thread of its own for the read would be one more than there are processors.
+        ahead.read();
         worker.work(alloc, chunk, layout, width);
         return;
     }
@@ -101,11 +108,13 @@ pub fn work_parallel<R: Threads + Sync>(
         rt,
         &mut || worker.work(alloc, chunk, layout, width),
         &mut ||
+            requires ahead { A.can_read ahead.now }
             requires chunks { length workers.now ≡ length chunks.now }
             requires widths { length chunks.now ≤ length widths.now }
             ensures len { length workers.exit.now ≡ length workers.entry.now }
             ensures each { TakesEachBy layout.entry.now widths.entry.now chunks.entry.now
                 workers.entry.now workers.exit.now }
-        { work_parallel(rt, alloc, workers, chunks, widths, layout) },
+            ensures ahead { A.has_read ahead.entry.now ahead.exit.now }
+        { work_parallel(rt, alloc, workers, chunks, widths, layout, ahead) },
     );
 }

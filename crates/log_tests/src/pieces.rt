@@ -79,6 +79,7 @@ fn text_in_pieces(
         reading.delimiter,
         count,
         file.len() / count.max(1),
+        0,
     )?;
     let mut keys: Vec<Vec<u8>> = Vec::new(alloc);
     take_pieces(alloc, &mut keys, pieces.as_slice(), reading)?;
@@ -131,6 +132,7 @@ fn text_of_counted(
         reading.delimiter,
         count,
         file.len() / count.max(1),
+        0,
     )?;
     let mut counter = KeyCounter::new(alloc, hasher, true)?;
     count_pieces(alloc, &mut counter, pieces.as_slice(), reading)?;

@@ -1,5 +1,5 @@
-use Rattle.std.proofs.Common.{rules, arith, ◌≡◌, ◌∙◌, ◌<◌, ◌≤◌, ap, sym, length, refl}
-use Rattle.csv_ingest.specs.Private.Pieces.{bytes_of, lent}
+use Rattle.std.proofs.Common.{rules, arith, ◌≡◌, ◌∙◌, ◌<◌, ap, sym, length, refl}
+use Rattle.csv_ingest.specs.Private.Pieces.{lent}
 use Rattle.key_stream.proofs.TakenFirst.{front-within, lent-front, one-left}
 use Rattle.key_stream.proofs.counting.Counting.split.Goals as goal
 

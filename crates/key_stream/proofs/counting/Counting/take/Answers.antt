@@ -1,6 +1,5 @@
-use Rattle.std.proofs.Common.{ap}
 use Rattle.csv_ingest.specs.Private.Wanted.{taking}
-use Rattle.key_stream.proofs.Splits.{split-fails, split-none, split-takes}
+use Rattle.key_stream.proofs.Splits.{split-fails, split-takes}
 use Rattle.key_stream.proofs.counting.Counting.take.Goals as goal
 
 pub returns-clause-ok : goal.returns-clause-ok

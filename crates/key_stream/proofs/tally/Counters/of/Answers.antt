@@ -1,4 +1,4 @@
-use Rattle.std.proofs.Common.{rules, ◌<◌, arith, length, refl}
+use Rattle.std.proofs.Common.{rules, ◌<◌, arith, refl}
 use Rattle.key_stream.proofs.tally.Counters.of.Goals as goal
 
 pub returns : goal.returns
