@@ -14,7 +14,7 @@ use crate::merging::Segment;
 use crate::results::no_results;
 use key_index::KeyHash;
 use lane_words::Memory;
-use parallel::{LEAST_KEYS, collected};
+use parallel::{LEAST_ENTRIES, collected};
 use std::alloc::Global;
 use std::thread;
 use std::thread::Threads;
@@ -164,7 +164,7 @@ pub fn threads_for(place: &Place, pieces: usize) -> usize
     ensures { 0 < result }
 {
     // A part has twice as many cells as there are entries, or more.
-    if place.mask / 2 < LEAST_KEYS {
+    if place.mask / 2 < LEAST_ENTRIES {
         return 1;
     }
     pieces.max(1)

@@ -173,6 +173,19 @@ fn is_counted_alike<R: Threads + Sync + RandomSource>(
     true
 }
 
+/// Whether a file has the same counts where threads merge the entries of several workers.
+fn is_merged_alike<R: Threads + Sync + RandomSource>(
+    rt: &R,
+    alloc: Global,
+    file: &[u8],
+    options: &Options,
+) -> bool
+    requires { AreInRange options.now }
+{
+    let whole = text_by_logs(rt, alloc, file, options);
+    text_by_stream(rt, alloc, file, options, (4, 1 << 20)) == whole
+}
+
 /// The logs of a file that is read in parallel.
 fn logs_by_records<R: Threads + Sync + RandomSource>(
     rt: &R,
@@ -307,14 +320,25 @@ fn long_keys_are_counted_alike(rt: HostRuntime) -> Result<(), Fail> {
     Ok(())
 }
 
+/// Adds a record, whose key has so many letters.
+fn add_letters(file: &mut Vec<u8>, random: &mut Random, letters: u32) -> Result<(), Memory> {
+    for _ in 0..letters {
+        file.push(b'a' + random.below(20) as u8)?;
+    }
+    file.push(b'\n')?;
+    Ok(())
+}
+
 /// A file of this many records, most of whose keys several threads meet.
-fn file_of_many_keys(alloc: Global, random: &mut Random, records: u32) -> Result<Vec<u8>, Memory> {
+fn file_of_many_keys(
+    alloc: Global,
+    random: &mut Random,
+    letters: u32,
+    records: u32,
+) -> Result<Vec<u8>, Memory> {
     let mut file = Vec::new(alloc);
     for _ in 0..records {
-        file.push(b'a' + random.below(26) as u8)?;
-        file.push(b'a' + random.below(26) as u8)?;
-        file.push(b'a' + random.below(8) as u8)?;
-        file.push(b'\n')?;
+        add_letters(&mut file, random, letters)?;
     }
     Ok(file)
 }
@@ -322,8 +346,17 @@ fn file_of_many_keys(alloc: Global, random: &mut Random, records: u32) -> Result
 #[test]
 fn many_keys_are_counted_alike(rt: HostRuntime) -> Result<(), Fail> {
     let mut random = Random { state: 3 };
-    let file = file_of_many_keys(rt.alloc(), &mut random, 10_000)?;
+    let file = file_of_many_keys(rt.alloc(), &mut random, 3, 10_000)?;
     assert!(rt; is_counted_alike(&rt, rt.alloc(), &file, &options(rt.alloc(), 4)));
+    Ok(())
+}
+
+#[test]
+fn many_entries_are_merged_alike(rt: HostRuntime) -> Result<(), Fail> {
+    let mut random = Random { state: 4 };
+    // Each worker meets some 60,000 of 160,000 keys, so that most are met by several.
+    let file = file_of_many_keys(rt.alloc(), &mut random, 4, 300_000)?;
+    assert!(rt; is_merged_alike(&rt, rt.alloc(), &file, &options(rt.alloc(), 4)));
     Ok(())
 }
 
@@ -331,7 +364,7 @@ fn many_keys_are_counted_alike(rt: HostRuntime) -> Result<(), Fail> {
 fn several_chunks_are_logged_alike(rt: HostRuntime) -> Result<(), Fail> {
     let mut random = Random { state: 5 };
     for records in [3_000, 10_000, 1_500_000] {
-        let file = file_of_many_keys(rt.alloc(), &mut random, records)?;
+        let file = file_of_many_keys(rt.alloc(), &mut random, 3, records)?;
         assert!(rt; is_logged_alike(&rt, rt.alloc(), &file, &options(rt.alloc(), 4)));
     }
     Ok(())
