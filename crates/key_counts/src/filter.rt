@@ -11,10 +11,9 @@ ghost use Rattle.key_counts.specs.Private.Results.{AreFound};
 
 use crate::hashes::hashes_in;
 use crate::merging::Segment;
-use crate::results::no_results;
 use key_index::KeyHash;
 use lane_words::Memory;
-use parallel::{LEAST_ENTRIES, collected};
+use parallel::{LEAST_ENTRIES, collected, no_results};
 use std::alloc::Global;
 use std::thread;
 use std::thread::Threads;

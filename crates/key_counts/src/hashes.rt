@@ -8,10 +8,9 @@ ghost use Rattle.key_counts.specs.Private.Results.{AreFound, list_of};
 
 use crate::counts::KeyCounts;
 use crate::merging::behind;
-use crate::results::no_results;
 use key_index::KeyHash;
 use lane_words::Memory;
-use parallel::collected;
+use parallel::{collected, no_results};
 use std::alloc::Global;
 use std::thread;
 use std::thread::Threads;

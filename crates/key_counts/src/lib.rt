@@ -17,7 +17,6 @@ mod entry;
 mod filter;
 mod hashes;
 mod merging;
-mod results;
 mod shared;
 mod slots;
 mod twins;

@@ -1,8 +1,9 @@
 //! Work on several threads: collecting results, dropping, and how much work is worth a thread.
 //!
 //! It promises:
-//! - `collected` turns a list of results into the list of their values, in order. It fails where
-//!   one of them, or the new list, ran out of memory.
+//! - `no_results` has a place for the result of each task, and `collected` turns a list of results
+//!   into the list of their values, in order. It fails where one of them, or the new list, ran out
+//!   of memory.
 //! - `drop_each` drops every item, which no contract can say.
 //! - The thresholds (`LEAST_KEYS`, `LEAST_ENTRIES`, `LEAST_BYTES`, `LEAST_DROPS`) decide how long a
 //!   call takes, never what it returns: below them, starting threads takes longer than the work
@@ -11,7 +12,7 @@
 //! Tests: `log_tests`, through the crates that call it.
 #![tactic(auto)]
 
-ghost use Rattle.std.specs.Prelude.{◌≡◌, Ok, IfOk, map};
+ghost use Rattle.std.specs.Prelude.{◌≡◌, Ok, IfOk, map, vec_len};
 
 use lane_words::Memory;
 use std::alloc::Global;
@@ -31,6 +32,9 @@ pub const LEAST_BYTES: usize = 1 << 18;
 /// Fewer keys than these are dropped by the calling thread alone.
 pub const LEAST_DROPS: usize = 1 << 18;
 
+/// In how many threads items are dropped.
+const DROP_THREADS: usize = 4;
+
 /// The values of these results, in order. Fails with `Memory` if one of the results is an error, or
 /// if the list of values cannot be allocated.
 pub fn collected<T: Drop>(alloc: Global, results: Vec<Result<T, Memory>>) -> Result<Vec<T>, Memory>
@@ -43,11 +47,40 @@ pub fn collected<T: Drop>(alloc: Global, results: Vec<Result<T, Memory>>) -> Res
     Ok(values)
 }
 
-/// Drops each item on a thread of its own.
+/// A place for the result of each of so many tasks, none of which is there yet.
+pub fn no_results<T: Drop>(alloc: Global, count: usize) -> Result<Vec<Result<T, Memory>>, Memory>
+    ensures { IfOk result (λ found. vec_len found ≡ count) }
+{
+    let mut found = Vec::with_capacity(alloc, count)?;
+    for _task in 0..count {
+        found.push(Err(Memory))?;
+    }
+    Ok(found)
+}
+
+/// Items that can be dropped one by one.
+fn droppable<T: Drop>(items: Vec<T>) -> Result<Vec<Option<T>>, Memory> {
+    let mut found = Vec::with_capacity(*items.allocator(), items.len())?;
+    for item in items {
+        found.push(Some(item))?;
+    }
+    Ok(found)
+}
+
+/// Drops all items, in `DROP_THREADS` threads.
 ///
 /// It has no contract. A clause speaks of values: the items are gone when it returns, and that
 /// their memory was freed is no value. A body that leaks them would be proved as well.
 pub fn drop_each<R: Threads + Sync, T: Send + Drop>(rt: &R, items: Vec<T>) {
-    // If the list of results cannot be allocated, the items that are left are dropped here.
-    let _ = thread::map_vec(rt, items, &|item: T| drop(item));
+    // If the list cannot be allocated, the items are dropped here.
+    if let Ok(mut items) = droppable(items) {
+        thread::for_each_mut(
+            rt,
+            &mut items,
+            DROP_THREADS,
+            &|_, item: &mut Option<T>| {
+                *item = None;
+            },
+        );
+    }
 }

@@ -10,7 +10,7 @@ ghost use Rattle.partition_log.specs.Private.Shares.{AreFilled, AreMerged, AreTa
 use crate::taken::TakenRecords;
 use key_counts::{KeyCounts, Segment};
 use lane_words::Memory;
-use parallel::{LEAST_KEYS, collected};
+use parallel::{LEAST_KEYS, collected, no_results};
 use std::alloc::Global;
 use std::thread;
 use std::thread::Threads;
@@ -202,7 +202,7 @@ fn merged_log(alloc: Global, parts: &[Vec<Vec<u32>>], p: usize) -> Result<Vec<u3
     Ok(log)
 }
 
-/// The logs of all partitions, each merged in a thread of its own.
+/// The logs of all partitions, merged in as many threads as there are parts.
 fn merge_parallel<R: Threads + Sync>(
     rt: &R,
     alloc: Global,
@@ -215,7 +215,15 @@ fn merge_parallel<R: Threads + Sync>(
         → IfOk (slice_index_or found.items p d) (λ log. log.items ≡ flattened
         (map (λ part. slice_index_or (map vec_items part.items) p []) parts.now))) }
 {
-    let found = thread::map_indices(rt, alloc, partitions, &|p| merged_log(alloc, parts, p))?;
+    let mut found = no_results(alloc, partitions)?;
+    thread::for_each_mut(
+        rt,
+        &mut found,
+        parts.len().max(1),
+        &|p, own: &mut Result<Vec<u32>, Memory>| {
+            *own = merged_log(alloc, parts, p);
+        },
+    );
     Ok(found)
 }
 
