@@ -52,9 +52,11 @@ pub fn intern_keys<R: Threads + Sync, T: Send + Drop, F: FnOnce() -> T + Send + 
     ensures overlapped { IfOk result (λ r. F.post overlapped r.1) }
 {
     let scattered = scatter_lists(rt, alloc, hasher, lists)?;
-    let shards = all_shards(alloc, hasher, lists, &scattered)?;
-    let found = intern_shards(rt, alloc, hasher, lists, &scattered, capacity)?;
-    let (tables, local_ids) = tables_of(alloc, hasher, lists, found)?;
+    let InternedShards {
+        shards,
+        tables,
+        local_ids,
+    } = intern_in_shards(rt, alloc, hasher, lists, &scattered, capacity)?;
     let records = ShardedRecords {
         hasher,
         lists,
@@ -64,16 +66,77 @@ pub fn intern_keys<R: Threads + Sync, T: Send + Drop, F: FnOnce() -> T + Send + 
     let (assigned, zeros, other) = assign_global_ids(
         rt, alloc, &records, scattered, &tables, overlapped,
     );
+    let numbered = numbered(rt, &records, tables, assigned, zeros)?;
+    Ok((numbered, other))
+}
+
+/// The interned keys, from the key numbers of each shard and a zero for each record.
+fn numbered<R: Threads + Sync>(
+    rt: &R,
+    records: &ShardedRecords<'_>,
+    tables: Vec<KeyMap>,
+    assigned: Result<(Vec<Vec<u32>>, Vec<KeyLocation>), Memory>,
+    zeros: Result<Vec<u32>, Memory>,
+) -> Result<InternedKeys, Memory>
+    requires shards { records.now.shards.now ≡ map (shard_by records.now) (keys_in records.now) }
+    requires local_ids { AreLocalIds (shard_by records.now) SHARDS (keys_in records.now)
+        (local_ids_in records.now) }
+    requires assigned { IfOk assigned (IsAssignment (shard_by records.now) (keys_in records.now)) }
+    requires zeros { IfOk zeros (λ zeros. length zeros.items ≡ length (keys_in records.now)) }
+    ensures tables { IfOk result (λ r. r.tables ≡ tables) }
+    ensures assigned { IfOk result (λ r.
+        IsAssignment (shard_by records.now) (keys_in records.now) (r.ids, r.order)) }
+    ensures numbers { IfOk result (λ r. r.numbers.items
+        ≡ map (id_of (distinct (keys_in records.now))) (keys_in records.now)) }
+{
     let (ids, order) = assigned?;
     let mut numbers = zeros?;
-    read_slices(rt, &records, &ids, &mut numbers);
-    let numbered = InternedKeys {
+    read_slices(rt, records, &ids, &mut numbers);
+    Ok(InternedKeys {
         tables,
         ids,
         order,
         numbers,
-    };
-    Ok((numbered, other))
+    })
+}
+
+/// Interned shards.
+#[derive(Drop)]
+pub struct InternedShards {
+    /// The shard of each record, one list after another.
+    shards: Vec<u8>,
+    /// The keys of each shard.
+    tables: Vec<KeyMap>,
+    /// The numbers in each shard of its records.
+    local_ids: Vec<Vec<u32>>,
+}
+
+/// Interns the records in their shards.
+fn intern_in_shards<R: Threads + Sync>(
+    rt: &R,
+    alloc: Global,
+    hasher: KeyHash,
+    lists: &[&[&[u8]]],
+    scattered: &[Scattered<'_>],
+    capacity: usize,
+) -> Result<InternedShards, Memory>
+    requires bound { length (lent_lists lists.now) ≤ MOST_RECORDS }
+    requires scattered { AreScattered (shard_of hasher) lists.now scattered.now }
+    ensures shards { IfOk result (λ r.
+        r.shards.items ≡ map (shard_of hasher) (lent_lists lists.now)) }
+    ensures tables { IfOk result (λ r.
+        AreTables (shard_of hasher) SHARDS (lent_lists lists.now) r.tables.items) }
+    ensures local_ids { IfOk result (λ r. AreLocalIds (shard_of hasher) SHARDS
+        (lent_lists lists.now) (map vec_items r.local_ids.items)) }
+{
+    let shards = all_shards(alloc, hasher, lists, scattered)?;
+    let found = intern_shards(rt, alloc, hasher, lists, scattered, capacity)?;
+    let (tables, local_ids) = tables_of(alloc, hasher, lists, found)?;
+    Ok(InternedShards {
+        shards,
+        tables,
+        local_ids,
+    })
 }
 
 /// An interned shard.
@@ -117,14 +180,33 @@ fn intern_shard(
     requires scattered { AreScattered (shard_of hasher) lists.now scattered.now }
     ensures { IfOk result (IsInternedShard (shard_of hasher) (lent_lists lists.now) shard) }
 {
-    let mut table = KeyMap::hashed_by(alloc, hasher);
-    table.reserve(capacity)?;
-    let mut local_ids = Vec::with_capacity(alloc, capacity)?;
+    let local_ids = Vec::with_capacity(alloc, capacity)?;
+    let table = KeyMap::with_capacity(alloc, hasher, capacity)?;
+    let mut interned = InternedShard { table, local_ids };
+    intern_rows(&mut interned, hasher, lists, scattered, shard).and(Ok(interned))
+}
+
+/// Interns the records of one shard, list by list.
+fn intern_rows(
+    interned: &mut InternedShard,
+    hasher: KeyHash,
+    lists: &[&[&[u8]]],
+    scattered: &[Scattered<'_>],
+    shard: u8,
+) -> Result<(), Memory>
+    requires table { interned.old.table ≡ [] }
+    requires local_ids { interned.old.local_ids.items ≡ [] }
+    requires bound { length (lent_lists lists.now) ≤ MOST_RECORDS }
+    requires shard { shard < SHARDS }
+    requires scattered { AreScattered (shard_of hasher) lists.now scattered.now }
+    ensures { OnOk result
+        (IsInternedShard (shard_of hasher) (lent_lists lists.now) shard interned.new) }
+{
     for i in 0..scattered.len() {
         let row = &scattered[i].rows[shard as usize];
-        intern_row(&mut table, &mut local_ids, row.as_slice())?;
+        intern_row(&mut interned.table, &mut interned.local_ids, row.as_slice())?;
     }
-    Ok(InternedShard { table, local_ids })
+    Ok(())
 }
 
 /// Interns the shards of one group, one after another.

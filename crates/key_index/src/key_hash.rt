@@ -8,8 +8,6 @@ ghost use Rattle.key_index.specs.Private.KeyHash.{IsDrawn, hash_of, sum_of, with
 
 use crate::key_words::KeyWords;
 use crate::stored_key::LONGEST_INLINE;
-use std::fmt;
-use std::fmt::{Debug, Formatter};
 use std::hash::{BuildHasher, Hasher, RandomState};
 
 /// The number of seeds: one for each four bytes of a short key, and two more.
@@ -121,13 +119,6 @@ impl KeyHash {
         ensures { result ≡ hash_of self.now key.now }
     {
         sum_of(&self.seeds, key) >> 31
-    }
-}
-
-impl Debug for KeyHash {
-    fn fmt<W: fmt::Write>(&self, f: &mut Formatter<W>) -> fmt::Result {
-        // Whoever sees the seeds can choose keys that collide.
-        f.debug_struct("KeyHash").finish_non_exhaustive()
     }
 }
 

@@ -13,7 +13,7 @@ use std::hash::RandomState;
 use std::marker::Model;
 
 /// Distinct keys by number, at most 2^32 - 1 of them.
-#[derive(Debug, Drop)]
+#[derive(Drop)]
 pub struct KeyMap {
     /// The allocator of the keys.
     alloc: Global,
@@ -52,6 +52,22 @@ impl KeyMap {
             set: IndexSet::with_hasher(alloc, hasher),
             query: None,
         }
+    }
+
+    /// An empty map that hashes keys by this, with capacity for this many.
+    pub(crate) fn with_capacity(
+        alloc: Global,
+        hasher: KeyHash,
+        capacity: usize,
+    ) -> Result<KeyMap, Memory>
+        ensures { IfOk result (λ keys. keys ≡ []) }
+    {
+        let set = IndexSet::with_capacity_and_hasher(alloc, capacity, hasher)?;
+        Ok(KeyMap {
+            alloc,
+            set,
+            query: None,
+        })
     }
 
     /// Reserves capacity for this many more keys.

@@ -13,7 +13,7 @@ use std::marker::Model;
 /// A processor that reads bytes in other portions than it has just written them waits for memory,
 /// but words stay in registers while a key is hashed. Each field is a word, so that a copy moves
 /// just these words.
-#[derive(Debug, Drop)]
+#[derive(Drop)]
 pub struct KeyWords {
     /// The first eight bytes of the key and of the zeros behind it, little-endian.
     first: u64,

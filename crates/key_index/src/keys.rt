@@ -1,6 +1,6 @@
 //! The key dictionary of all logs: keys numbered in the order of their first appearance.
 
-ghost use Rattle.std.specs.Prelude.{◌≡◌, ◌<◌, ◌≤◌, ◌↔◌, [], IfOk, IfSome, IfNone, IsOk, IsTrue, OnErr, length, map, true, false};
+ghost use Rattle.std.specs.Prelude.{◌≡◌, ◌<◌, ◌≤◌, ◌↔◌, [], IfOk, IfSome, IfNone, IsOk, IsTrue, OnErr, OnOk, length, map, true, false};
 ghost use Rattle.key_index.specs.Interned.{IsDictionaryOf};
 ghost use Rattle.key_index.specs.Keys.{IsIdOf, IsWithoutRepeats, id_of, is_interned, key_at, lent_lists, with_key};
 
@@ -17,7 +17,7 @@ use std::thread::Threads;
 
 /// A dictionary of keys. Each has a hash with fresh random seeds, since the keys may be chosen by
 /// an attacker.
-#[derive(Debug, Drop)]
+#[derive(Drop)]
 pub struct KeyDictionary {
     /// The allocator of the keys.
     alloc: Global,
@@ -64,11 +64,20 @@ impl KeyDictionary {
         ensures { IfOk result (λ copy. copy ≡ self.now) }
     {
         let mut copy = KeyDictionary::new(rt, self.alloc)?;
-        copy.table.reserve(self.count() as usize)?;
-        for number in 0..self.count() {
-            copy.add(self.key(number))?;
+        copy.add_all(self).and(Ok(copy))
+    }
+
+    /// Adds the keys of another dictionary to an empty one.
+    fn add_all(&mut self, other: &KeyDictionary) -> Result<(), Memory>
+        requires empty { self.old ≡ [] }
+        requires distinct { IsWithoutRepeats other.now }
+        ensures { OnOk result (self.new ≡ other.now) }
+    {
+        self.table.reserve(other.count() as usize)?;
+        for number in 0..other.count() {
+            self.add(other.key(number))?;
         }
-        Ok(copy)
+        Ok(())
     }
 
     /// Interns the keys of these lists: returns the distinct keys in the order of their first

@@ -40,7 +40,7 @@ pub fn shard_of(hasher: &KeyHash, key: &[u8]) -> u8
 }
 
 /// The location of a key.
-#[derive(Clone, Copy, Debug)]
+#[derive(Clone, Copy)]
 pub struct KeyLocation {
     /// Its shard.
     pub shard: u8,
@@ -49,7 +49,7 @@ pub struct KeyLocation {
 }
 
 /// An immutable map of keys by number. Each shard is a table with numbers of its own.
-#[derive(Debug, Drop)]
+#[derive(Drop)]
 pub struct ShardedMap {
     /// The hash of the keys, which decides their shards too.
     hasher: KeyHash,

@@ -18,7 +18,7 @@ use std::marker::Model;
 pub const LONGEST_INLINE: usize = 22;
 
 /// Where the bytes of a key are.
-#[derive(Debug, Drop)]
+#[derive(Drop)]
 enum Storage {
     /// The first `size` of these bytes.
     Inline {
@@ -30,7 +30,7 @@ enum Storage {
 }
 
 /// A copy of a key of up to `LONGEST_INLINE` bytes.
-#[derive(Clone, Copy, Debug)]
+#[derive(Clone, Copy)]
 pub struct ShortKey {
     /// The bytes of the key, followed by zeros.
     bytes: [u8; LONGEST_INLINE],
@@ -54,7 +54,7 @@ impl ShortKey {
 }
 
 /// A key. A short one is stored inline, so that a lookup follows no pointer to it.
-#[derive(Debug, Drop)]
+#[derive(Drop)]
 pub struct StoredKey {
     storage: Storage,
 }

@@ -4,10 +4,10 @@ use Rattle.key_index.specs.Keys.{Key, id_of, lent, lent_lists}
 use Rattle.key_index.specs.Private.Sharded.{of_shard, shard_of, with_keys}
 use Rattle.key_index.proofs.Scattered.{lists-more, lists-parted, row-numbered, row-capacity}
 use Rattle.key_index.proofs.ShardRecords.{numbered-none}
-use Rattle.key_index.proofs.interning.intern_shard.Goals as goal
+use Rattle.key_index.proofs.interning.intern_rows.Goals as goal
 
 pub loop-i-init : goal.loop-i-init
-loop-i-init c = rw (c.in_ok-reserve.ensures ∙ c.hashed_by-table.ensures, c.in_ok-local_ids.ensures.items) (numbered-none (shard_of c.args.hasher) c.args.shard (lent_lists c.args.lists.now))
+loop-i-init c = rw (c.requires.table, c.requires.local_ids) (numbered-none (shard_of c.args.hasher) c.args.shard (lent_lists c.args.lists.now))
 
 pub index-row-requires : goal.index-row-requires
 index-row-requires c =
@@ -31,7 +31,7 @@ intern_row-requires c =
     let lt : c.args.shard < length own.rows.items = omega (arith, c.requires.shard, rows.each, length-map own.rows.items keys_of) in
     let row : c.as_slice.result.now ≡ of_shard f c.args.shard (lent (get_or lists i e).now) =
     c.as_slice.ensures.value ∙ ap keys_of c.index-row.ensures ∙ sym (get_or-map keys_of own.rows.items c.args.shard c.index-row.result.now [] lt) ∙ rows.are c.args.shard c.requires.shard in
-    let capacity = row-capacity f c.args.shard (lent_lists lists) (lent_lists (take i lists)) (lent (get_or lists i e).now) (lent_lists (drop (i + 1) lists)) c.loop-i.table c.loop-i.local_ids.items (lists-parted lists i e i_in) c.loop-i.invariant in
+    let capacity = row-capacity f c.args.shard (lent_lists lists) (lent_lists (take i lists)) (lent (get_or lists i e).now) (lent_lists (drop (i + 1) lists)) c.loop-i.interned.table c.loop-i.interned.local_ids.items (lists-parted lists i e i_in) c.loop-i.invariant in
     omega (arith, capacity, ap length row, c.requires.bound)
 
 pub loop-i-preserved : goal.loop-i-preserved
@@ -39,8 +39,8 @@ loop-i-preserved c =
     let f = shard_of c.args.hasher in
     let lists = c.args.lists.now in
     let i = c.loop-i.i in
-    let table = c.loop-i.table in
-    let local_ids = c.loop-i.local_ids.items in
+    let table = c.loop-i.interned.table in
+    let local_ids = c.loop-i.interned.local_ids.items in
     let own = get_or c.args.scattered.now i c.index-scattered-i.result in
     let e : Bor (List (Bor Key)) = record { ref_ptr = (0, 0); now = [] } in
     let keys_of : Vec Key Global → List Key = λ row. row.items in
