@@ -15,7 +15,7 @@ use std::marker::Model;
 
 /// Counts keys. Short ones wait until several can be looked up together: a processor that waits for
 /// the memory of one key goes on with the next.
-#[derive(Debug, Drop)]
+#[derive(Drop)]
 pub struct KeyCounter {
     /// The keys that were looked up, counted.
     counts: KeyCounts,

@@ -16,7 +16,7 @@ use std::hash::RandomState;
 use std::marker::Model;
 
 /// Counted keys.
-#[derive(Debug, Drop)]
+#[derive(Drop)]
 pub struct KeyCounts {
     /// The allocator of the keys.
     alloc: Global,

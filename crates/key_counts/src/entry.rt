@@ -9,7 +9,7 @@ use lane_words::Memory;
 
 /// A key, and how many records it has. Both lie in 32 bytes, so that a processor that waits for one
 /// has the other, too.
-#[derive(Debug, Drop)]
+#[derive(Drop)]
 pub struct Entry {
     /// The key.
     pub key: StoredKey,

@@ -28,7 +28,7 @@ const SEVERAL: u8 = 2;
 const ALL_SEVERAL: u8 = 0b10101010;
 
 /// How keys are placed in cells.
-#[derive(Clone, Copy, Debug)]
+#[derive(Clone, Copy)]
 pub struct Place {
     /// The hash of the keys.
     pub hasher: KeyHash,
@@ -37,7 +37,7 @@ pub struct Place {
 }
 
 /// A filter of keys. Whoever has a cell of its own has no twin.
-#[derive(Debug, Drop)]
+#[derive(Drop)]
 pub struct Filter {
     /// How keys are placed in cells.
     place: Place,

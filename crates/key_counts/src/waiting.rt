@@ -12,7 +12,7 @@ use std::marker::Model;
 pub const MOST_WAITING: usize = 32;
 
 /// A short key that waits to be looked up.
-#[derive(Debug, Drop)]
+#[derive(Drop)]
 pub struct WaitingKey {
     /// The key.
     key: KeyWords,

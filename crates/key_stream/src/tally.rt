@@ -16,7 +16,7 @@ use std::random::RandomSource;
 use std::thread::Threads;
 
 /// The counters of all workers, and which entries and records each chunk brought.
-#[derive(Debug, Drop)]
+#[derive(Drop)]
 pub struct Counters {
     /// The counters.
     pub workers: Vec<KeyCounts>,
