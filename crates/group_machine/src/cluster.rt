@@ -28,7 +28,7 @@ use std::random::RandomSource;
 /// The group rebalances cooperatively (KIP-429), with the balance of Kafka's sticky assignor. After
 /// each call no partition is granted to two present members, and the counter of each key is the
 /// number of times that the key is in the records below the committed offsets.
-#[derive(Debug, Drop)]
+#[derive(Drop)]
 pub struct Cluster {
     alloc: Global,
     group: Group,

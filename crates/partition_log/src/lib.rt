@@ -43,7 +43,7 @@ pub use taken::TakenRecords;
 /// Keys are numbered from 0 over all topics, in the order of first appearance. A record is a key in
 /// a topic; its log stores the number of its key. A key has 0 to 65,535 bytes of any value. A log
 /// holds up to 4,294,967,295 records, and there are up to 4,294,967,295 keys.
-#[derive(Debug, Drop)]
+#[derive(Drop)]
 pub struct Logs {
     /// The number of partitions of each topic.
     partitions: Partitions,

@@ -10,7 +10,7 @@ use std::marker::Model;
 use std::random::RandomSource;
 
 /// Read-only logs: nothing is appended to them any more, so any number of threads may read them.
-#[derive(Debug, Drop)]
+#[derive(Drop)]
 pub struct SealedLogs {
     /// The logs.
     pub(crate) logs: Logs,

@@ -27,7 +27,7 @@ use std::marker::Model;
 /// Invariant: whenever the members sync, rejoin and commit, the rebalance ends in the state that
 /// the applied lines determine. So any number of threads may share a `Planned` under a lock, and
 /// the order in which they take the lock does not matter.
-#[derive(Debug, Drop)]
+#[derive(Drop)]
 pub struct Planned {
     cluster: Cluster,
     plan: Plan,

@@ -21,7 +21,7 @@ use std::thread::Threads;
 use std::{hint, thread};
 
 /// The result of a run.
-#[derive(Debug, Drop)]
+#[derive(Drop)]
 pub struct Outcome {
     cluster: Cluster,
 }

@@ -22,7 +22,7 @@ use std::alloc::Global;
 use std::thread::Threads;
 
 /// The parts of a world.
-#[derive(Debug, Drop)]
+#[derive(Drop)]
 pub struct Parts {
     pub cluster: Cluster,
     /// By member number: that of member m stands at index m - 1.

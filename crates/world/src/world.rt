@@ -31,7 +31,7 @@ use std::thread::Threads;
 /// members, polls, and commits that are sent and then delivered late, repeatedly or without an
 /// answer. After each event no partition is granted to two present members, a settled assignment is
 /// balanced, and each key's count is the number of its records below the committed offsets.
-#[derive(Debug, Drop)]
+#[derive(Drop)]
 pub struct World {
     alloc: Global,
     parts: Parts,
