@@ -100,11 +100,11 @@ def joins(folder: Path, members: int) -> Job:
     return Job("replay", name, written(folder / "no-records", []), script, 4096, 0, members)
 
 
-def drains(folder: Path, file: Path, records: int) -> Job:
+def drains(folder: Path, file: Path, records: int, partitions: int) -> Job:
     """Sixteen members drain all logs; then a loss, a join, and another drain."""
     lines = [*(f"join m{number}" for number in range(16)), "drain", "lose m3", "join m16", "drain"]
-    name = f"{records:,} records, 16 joins, drain, a loss, a join, drain, 64 partitions"
-    return Job("replay", name, file, written(folder / "drains", lines), 64, records, 16)
+    name = f"{records:,} records, 16 joins, drain, a loss, a join, drain, {partitions} partitions"
+    return Job("replay", name, file, written(folder / "drains", lines), partitions, records, 16)
 
 
 def traced_joins(folder: Path, members: int, each: bool) -> Job:
