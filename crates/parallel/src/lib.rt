@@ -24,7 +24,7 @@ use std::thread::Threads;
 pub const LEAST_KEYS: usize = 4096;
 
 /// Fewer counted keys than these are merged by the calling thread alone.
-pub const LEAST_ENTRIES: usize = 1 << 17;
+pub const LEAST_ENTRIES: usize = 1 << 18;
 
 /// The least number of bytes of a file that is worth a thread to read.
 pub const LEAST_BYTES: usize = 1 << 18;

@@ -354,8 +354,8 @@ fn many_keys_are_counted_alike(rt: HostRuntime) -> Result<(), Fail> {
 #[test]
 fn many_entries_are_merged_alike(rt: HostRuntime) -> Result<(), Fail> {
     let mut random = Random { state: 4 };
-    // Each worker meets some 60,000 of 160,000 keys, so that most are met by several.
-    let file = file_of_many_keys(rt.alloc(), &mut random, 4, 300_000)?;
+    // Each worker meets some 87,000 of 160,000 keys, so that most are met by several.
+    let file = file_of_many_keys(rt.alloc(), &mut random, 4, 500_000)?;
     assert!(rt; is_merged_alike(&rt, rt.alloc(), &file, &options(rt.alloc(), 4)));
     Ok(())
 }
