@@ -46,7 +46,7 @@ pub fn window_for(workers: usize) -> usize {
 
 /// The records read from a file: the keys that threads found, each mostly once, and of each record
 /// four bytes.
-#[derive(Debug, Drop)]
+#[derive(Drop)]
 pub struct FileRecords {
     /// The entries of the threads, with the code of each record's entry.
     workers: Vec<KeyCounts>,
