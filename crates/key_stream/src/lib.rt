@@ -14,7 +14,6 @@
 
 mod ahead;
 mod counting;
-mod overlap;
 mod round;
 mod segments;
 mod source;
@@ -23,8 +22,8 @@ mod verdict;
 mod window;
 mod worker;
 
+pub use ahead::take_and_read;
 pub use counting::{Counting, Split};
-pub use overlap::take_and_read;
 pub use round::Round;
 pub use source::refill;
 pub use tally::Counters;
