@@ -1,8 +1,8 @@
 -- The delimiters of values.
-use Rattle.std.proofs.Common.{◌≡◌, ◌∙◌, ◌&&◌, ℕ, Bool, true, false, List, [], ◌∷◌, Option, Some, None, ap, refl, sym, subst}
+use Rattle.std.proofs.Common.{◌≡◌, ◌∙◌, ℕ, Bool, true, false, List, [], ◌∷◌, Option, Some, None, ap, refl, sym, subst}
 use Rattle.std.specs.Prelude.{if◌then◌else◌, codes}
 use Rattle.std.specs.Str.{bytes_eq}
-use Rattle.command_line.specs.Delimiters.{IsDelimiterOf, delimiter_in, is_delimiter, only_delimiter}
+use Rattle.command_line.specs.Delimiters.{IsDelimiterOf, is_delimiter, only_delimiter}
 
 chosen : (b : Bool) (c d : ℕ) → is_delimiter c ≡ b → (if b then Some c else None) ≡ Some d → is_delimiter d ≡ true
 chosen true c d is e = let same : c ≡ d = cc e in ap is_delimiter (sym same) ∙ is

@@ -35,7 +35,7 @@ use Rattle.clap.specs.declared.parser.matches.ValueSource.TheVariants.{CommandLi
 use Rattle.command_line.specs.CommandLine.{HasJob, HaveBadList, IsBadListReport, IsFlag, IsJobOf, IsNumber, IsNumberIfGiven, IsRefusal, name_of, keycount_app, keycount_top, path}
 use Rattle.command_line.specs.Columns.{IsBadColumn}
 use Rattle.command_line.specs.Delimiters.{IsBadDelimiter}
-use Rattle.command_line.specs.Private.CommandLine.{IsCommand, IsOptionalNumber, AreCountRows, AreExplainRows, AreOptionRows, ArePlaceRows, AreScriptRows, IsBadReport, IsUsageOf, ReportsBadColumn, ReportsBadDelimiter, ReportsBadList, ReportsBadOption, AreCheckRows}
+use Rattle.command_line.specs.Private.CommandLine.{IsCommand, IsOptionalNumber, AreCountRows, AreExplainRows, AreOptionRows, ArePlaceRows, AreScriptRows, IsBadReport, IsUsageOf, ReportsBadColumn, ReportsBadDelimiter, ReportsBadList, ReportsBadOption, AreCheckRows, AreRowsOf, IsOfScript}
 use Rattle.command_line.specs.Topics.{AreTopicsOf, IsBadList}
 use Rattle.partitioner.specs.declared.topic.Topic.{Topic}
 use Rattle.command_line.specs.declared.words.Job.{Job}
@@ -753,17 +753,6 @@ explain_taken words e =
       no_topics = no_topics_passes rows all;
     }
 
--- the subcommands that take a script
-abbrev IsOfScript : Text → Type 0
-IsOfScript name = (name ≡ codes "replay") ⊎ ((name ≡ codes "trace") ⊎ ((name ≡ codes "draw") ⊎ (name ≡ codes "run")))
-
--- what clap has checked of the words after the subcommand of this name
-abbrev Takes : Text → List Row → Type 0
-Takes name rows =
-    ((name ≡ codes "count") × AreCountRows rows)
-    ⊎ ((IsOfScript name × AreScriptRows rows) ⊎ (((name ≡ codes "explain") × AreExplainRows rows)
-    ⊎ (((name ≡ codes "place") × ArePlaceRows rows) ⊎ ((name ≡ codes "check") × AreCheckRows rows))))
-
 -- ---- the program
 
 abbrev StopsElsewhere : Option (Text × List Text) → Type 0
@@ -779,7 +768,7 @@ not_named_help t e = go (bytes_eq (codes "help") t) refl
         absurd (true≢false (ap (λ u. bytes_eq u (codes "help")) is ∙ e))
 
 job_entered : (stop : Option (Text × List Text)) → StopsElsewhere stop → is_some (entered keycount_built stop) ≡ true → entered_fault keycount_built stop ≡ []
-    → (name : Text) × (rows : List Row) × (entered keycount_built stop ≡ Some (name, rows)) × Takes name rows
+    → (name : Text) × (rows : List Row) × (entered keycount_built stop ≡ Some (name, rows)) × AreRowsOf name rows
 job_entered None help some e = absurd (true≢false (sym some))
 job_entered (Some p) help some e =
     go (answers_to p.0 (label_of count_shape)) (answers_to p.0 (label_of place_shape)) (answers_to p.0 (label_of replay_shape)) (answers_to p.0 (label_of trace_shape)) (answers_to p.0 (label_of draw_shape)) (answers_to p.0 (label_of run_shape)) (answers_to p.0 (label_of check_shape)) (answers_to p.0 (label_of explain_shape)) (answers_to p.0 (label_of help_shape)) (not_named_help p.0 help) some e
@@ -791,7 +780,7 @@ job_entered (Some p) help some e =
 
     go : (b l d t q r c x h : Bool) → h ≡ false → is_some (option_map (λ s. rows_at s p.1) (found b l d t q r c x h)) ≡ true
         → option_map_or (λ s. level_fault s [] nothing_held p.1 false []) (found b l d t q r c x h) [] ≡ []
-        → (name : Text) × (rows : List Row) × (option_map (λ s. rows_at s p.1) (found b l d t q r c x h) ≡ Some (name, rows)) × Takes name rows
+        → (name : Text) × (rows : List Row) × (option_map (λ s. rows_at s p.1) (found b l d t q r c x h) ≡ Some (name, rows)) × AreRowsOf name rows
     go true l d t q r c x h other_no given e = (codes "count", rows_after count_shape.rules [] p.1, refl, inl (refl, count_taken p.1 e))
     go false true d t q r c x h other_no given e = (codes "place", rows_after place_shape.rules [] p.1, refl, inr (inr (inr (inl (refl, place_taken p.1 e)))))
     go false false true t q r c x h other_no given e = (codes "replay", rows_after replay_shape.rules [] p.1, refl, inr (inl (inl refl, replay_taken p.1 e)))
@@ -808,7 +797,7 @@ subcommand_given rows true e = refl
 subcommand_given rows false e = absurd (some_kind _ _ e)
 
 -- words that clap accepts name a job, with its arguments
-pub taken_job : (words : List Text) → fault_of keycount_app words ≡ [] → (name : Text) × (rows : List Row) × (subcommand_of keycount_app words ≡ Some (name, rows)) × Takes name rows
+pub taken_job : (words : List Text) → fault_of keycount_app words ≡ [] → (name : Text) × (rows : List Row) × (subcommand_of keycount_app words ≡ Some (name, rows)) × AreRowsOf name rows
 taken_job words e =
     let stop = (walk keycount_built.top.rules (names_of keycount_built) nothing_held words).stopped in
     let parts = level_parts keycount_built.top (names_of keycount_built) words (is_some (entered keycount_built stop)) (entered_fault keycount_built stop) e in
@@ -881,7 +870,7 @@ pub record MatchesJob (words : List Text) (m : ArgMatches) : Type 0 where
   pub rows : List Row
   pub subcommand : subcommand_of keycount_app words ≡ Some (name, rows)
   pub entered : subcommand_rows_of m ≡ Some (name, rows)
-  pub tested : Takes name rows
+  pub tested : AreRowsOf name rows
 
 pub matches_are : (command : Command) (words : List Text) (m : ArgMatches) → app_of command ≡ keycount_app → HasMatchesOf (app_of command) words m
     → (is_simple_and_free (app_of command) ≡ true → fault_of (app_of command) words ≡ []) → MatchesJob words m
@@ -924,42 +913,42 @@ script_is_not b no_replay no_trace no_draw no_run name (inr (inl named)) is = no
 script_is_not b no_replay no_trace no_draw no_run name (inr (inr (inl named))) is = not_both (codes "draw") b no_draw name named is
 script_is_not b no_replay no_trace no_draw no_run name (inr (inr (inr named))) is = not_both (codes "run") b no_run name named is
 
-pub takes_count : (name : Text) (rows : List Row) → Takes name rows → name ≡ codes "count" → AreCountRows rows
+pub takes_count : (name : Text) (rows : List Row) → AreRowsOf name rows → name ≡ codes "count" → AreCountRows rows
 takes_count name rows (inl takes) is = takes.1
 takes_count name rows (inr (inl takes)) is = absurd (script_is_not (codes "count") refl refl refl refl name takes.0 is)
 takes_count name rows (inr (inr (inl takes))) is = absurd (not_both (codes "explain") (codes "count") refl name takes.0 is)
 takes_count name rows (inr (inr (inr (inl takes)))) is = absurd (not_both (codes "place") (codes "count") refl name takes.0 is)
 takes_count name rows (inr (inr (inr (inr takes)))) is = absurd (not_both (codes "check") (codes "count") refl name takes.0 is)
 
-pub takes_script : (name : Text) (rows : List Row) → Takes name rows → IsOfScript name → AreScriptRows rows
+pub takes_script : (name : Text) (rows : List Row) → AreRowsOf name rows → IsOfScript name → AreScriptRows rows
 takes_script name rows (inl takes) is = absurd (script_is_not (codes "count") refl refl refl refl name is takes.0)
 takes_script name rows (inr (inl takes)) is = takes.1
 takes_script name rows (inr (inr (inl takes))) is = absurd (script_is_not (codes "explain") refl refl refl refl name is takes.0)
 takes_script name rows (inr (inr (inr (inl takes)))) is = absurd (script_is_not (codes "place") refl refl refl refl name is takes.0)
 takes_script name rows (inr (inr (inr (inr takes)))) is = absurd (script_is_not (codes "check") refl refl refl refl name is takes.0)
 
-pub takes_explain : (name : Text) (rows : List Row) → Takes name rows → name ≡ codes "explain" → AreExplainRows rows
+pub takes_explain : (name : Text) (rows : List Row) → AreRowsOf name rows → name ≡ codes "explain" → AreExplainRows rows
 takes_explain name rows (inl takes) is = absurd (not_both (codes "count") (codes "explain") refl name takes.0 is)
 takes_explain name rows (inr (inl takes)) is = absurd (script_is_not (codes "explain") refl refl refl refl name takes.0 is)
 takes_explain name rows (inr (inr (inl takes))) is = takes.1
 takes_explain name rows (inr (inr (inr (inl takes)))) is = absurd (not_both (codes "place") (codes "explain") refl name takes.0 is)
 takes_explain name rows (inr (inr (inr (inr takes)))) is = absurd (not_both (codes "check") (codes "explain") refl name takes.0 is)
 
-pub takes_place : (name : Text) (rows : List Row) → Takes name rows → name ≡ codes "place" → ArePlaceRows rows
+pub takes_place : (name : Text) (rows : List Row) → AreRowsOf name rows → name ≡ codes "place" → ArePlaceRows rows
 takes_place name rows (inl takes) is = absurd (not_both (codes "count") (codes "place") refl name takes.0 is)
 takes_place name rows (inr (inl takes)) is = absurd (script_is_not (codes "place") refl refl refl refl name takes.0 is)
 takes_place name rows (inr (inr (inl takes))) is = absurd (not_both (codes "explain") (codes "place") refl name takes.0 is)
 takes_place name rows (inr (inr (inr (inl takes)))) is = takes.1
 takes_place name rows (inr (inr (inr (inr takes)))) is = absurd (not_both (codes "check") (codes "place") refl name takes.0 is)
 
-pub takes_check : (name : Text) (rows : List Row) → Takes name rows → name ≡ codes "check" → AreCheckRows rows
+pub takes_check : (name : Text) (rows : List Row) → AreRowsOf name rows → name ≡ codes "check" → AreCheckRows rows
 takes_check name rows (inl takes) is = absurd (not_both (codes "count") (codes "check") refl name takes.0 is)
 takes_check name rows (inr (inl takes)) is = absurd (script_is_not (codes "check") refl refl refl refl name takes.0 is)
 takes_check name rows (inr (inr (inl takes))) is = absurd (not_both (codes "explain") (codes "check") refl name takes.0 is)
 takes_check name rows (inr (inr (inr (inl takes)))) is = absurd (not_both (codes "place") (codes "check") refl name takes.0 is)
 takes_check name rows (inr (inr (inr (inr takes)))) is = takes.1
 
-pub takes_none : (name : Text) (rows : List Row) → Takes name rows → (name ≡ codes "count" → ⊥) → (name ≡ codes "place" → ⊥) → (name ≡ codes "check" → ⊥) → (name ≡ codes "replay" → ⊥) → (name ≡ codes "trace" → ⊥) → (name ≡ codes "draw" → ⊥) → (name ≡ codes "run" → ⊥) → (name ≡ codes "explain" → ⊥) → ⊥
+pub takes_none : (name : Text) (rows : List Row) → AreRowsOf name rows → (name ≡ codes "count" → ⊥) → (name ≡ codes "place" → ⊥) → (name ≡ codes "check" → ⊥) → (name ≡ codes "replay" → ⊥) → (name ≡ codes "trace" → ⊥) → (name ≡ codes "draw" → ⊥) → (name ≡ codes "run" → ⊥) → (name ≡ codes "explain" → ⊥) → ⊥
 takes_none name rows (inl takes) no_count no_place no_check no_replay no_trace no_draw no_run no_explain = no_count takes.0
 takes_none name rows (inr (inl (inl named, has))) no_count no_place no_check no_replay no_trace no_draw no_run no_explain = no_replay named
 takes_none name rows (inr (inl (inr (inl named), has))) no_count no_place no_check no_replay no_trace no_draw no_run no_explain = no_trace named

@@ -8,7 +8,7 @@ ghost use Rattle.command_line.specs.Columns.{IsColumnOf};
 ghost use Rattle.command_line.specs.CommandLine.{HasOptions, HasPlaceOptions, HasScript, HaveBadList, IsBadListReport, IsJobOf, IsNumber, IsNumberIfGiven, IsRefusal, HasCheckOptions};
 ghost use Rattle.command_line.specs.Delimiters.{IsDelimiterOf};
 ghost use Rattle.command_line.specs.Topics.{AreTopicsOf};
-ghost use Rattle.command_line.specs.Private.CommandLine.{IsCommand, IsJobOfRows, IsOptionalNumber, IsReadAs, AreCountRows, AreExplainRows, AreOptionRows, ArePlaceRows, AreScriptRows, IsBadReport, IsUsageOf, ReportsBadColumn, ReportsBadDelimiter, ReportsBadList, ReportsBadOption, AreCheckRows};
+ghost use Rattle.command_line.specs.Private.CommandLine.{IsCommand, IsJobOfRows, IsOptionalNumber, IsReadAs, AreCountRows, AreExplainRows, AreOptionRows, ArePlaceRows, AreScriptRows, IsBadReport, IsUsageOf, ReportsBadColumn, ReportsBadDelimiter, ReportsBadList, ReportsBadOption, AreCheckRows, AreRowsOf};
 ghost use Rattle.command_line.specs.CommandLine.{code_argument, count_app, draw_app, explain_app, flag, keycount_app, keycount_top, number_option, path, place_app, replay_app, run_app, text_option, trace_app, with_options, with_script, with_top, check_app, value_argument, with_numbers};
 
 use crate::columns::{is_numeral, parse_column};
@@ -30,7 +30,7 @@ use partitioner::Topic;
 use std::alloc::{AllocError, Global};
 
 /// What the program is asked to do.
-#[derive(Debug, Drop)]
+#[derive(Drop)]
 pub enum Job<'a> {
     /// Counts the keys of a file.
     Count {
@@ -200,7 +200,7 @@ fn flag<'a>(alloc: Global, name: &'a str, help: &'a str) -> Arg<'a>
 }
 
 /// Adds an argument to a command. Commands are passed on as results: each `?` where a command is
-/// owned is one more way to drop it, which the proofs pay for. Here is the only one for arguments.
+/// owned is one more way to drop it, which the proofs pay for.
 fn with_arg<'a>(
     command: Result<Command<'a>, AllocError>,
     arg: Arg<'a>,
@@ -209,9 +209,22 @@ fn with_arg<'a>(
     ensures { (app : App) (rule : Rule) → IfOk command.entry (IsCommand app)
         → rule_of arg.entry ≡ rule → IfOk result (IsCommand (with_rule app rule)) }
 {
-    command?.arg(arg)
+    match command {
+        Ok(command) => add_arg(command, arg),
+        Err(error) => Err(error),
+    }
 }
 
+/// The same to a command that there is.
+fn add_arg<'a>(command: Command<'a>, arg: Arg<'a>) -> Result<Command<'a>, AllocError>
+    requires local { arg.global ≡ false }
+    ensures { (app : App) (rule : Rule) → IsCommand app command.entry
+        → rule_of arg.entry ≡ rule → IfOk result (IsCommand (with_rule app rule)) }
+{
+    command.arg(arg)
+}
+
+/// Adds a subcommand to a command, where there are both.
 fn with_subcommand<'a>(
     command: Result<Command<'a>, AllocError>,
     added: Result<Command<'a>, AllocError>,
@@ -220,7 +233,18 @@ fn with_subcommand<'a>(
         → IfOk added.entry (IsCommand sub)
         → IfOk result (IsReadAs (with_subcommand app sub.top)) }
 {
-    command?.subcommand(added?)
+    match (command, added) {
+        (Ok(command), Ok(added)) => add_subcommand(command, added),
+        _ => Err(AllocError),
+    }
+}
+
+/// The same to a command that there is.
+fn add_subcommand<'a>(command: Command<'a>, added: Command<'a>) -> Result<Command<'a>, AllocError>
+    ensures { (app sub : App) → IsReadAs app command.entry → IsCommand sub added.entry
+        → IfOk result (IsReadAs (with_subcommand app sub.top)) }
+{
+    command.subcommand(added)
 }
 
 /// Adds the options that all subcommands have.
@@ -756,6 +780,15 @@ pub fn read_words<'a>(alloc: Global, words: &'a [&'a str]) -> Result<Job<'a>, Us
     let Some((name, given)) = matches.subcommand() else {
         unreachable!();
     };
+    job_of(alloc, name, given)
+}
+
+/// The job of the subcommand of this name, from what clap found.
+fn job_of<'a>(alloc: Global, name: &str, given: &ArgMatches<'a>) -> Result<Job<'a>, Usage>
+    requires { AreRowsOf name.now (rows_of (found_of given.now)) }
+    ensures job { IfOk result (IsJobOfRows name.now (rows_of (found_of given.now))) }
+    ensures fault { IfErr result (ReportsBadOption (rows_of (found_of given.now))) }
+{
     match name {
         "count" => count_job(alloc, given),
         "place" => place_job(alloc, given),

@@ -56,6 +56,18 @@ pub record AreExplainRows (rows : List Row) : Type 0 where
   pub code : IsOptionalNumber (first_of (codes "code") rows) LAST_CODE
   pub no_topics : first_of (codes "topics") rows ≡ None
 
+-- the subcommands that take a script
+abbrev pub IsOfScript : Text → Type 0
+IsOfScript name = (name ≡ codes "replay") ⊎ (name ≡ codes "trace") ⊎ (name ≡ codes "draw")
+    ⊎ (name ≡ codes "run")
+
+-- what clap has checked of the words after the subcommand of this name
+abbrev pub AreRowsOf : Text → List Row → Type 0
+AreRowsOf name rows =
+    ((name ≡ codes "count") × AreCountRows rows) ⊎ (IsOfScript name × AreScriptRows rows)
+    ⊎ ((name ≡ codes "explain") × AreExplainRows rows)
+    ⊎ ((name ≡ codes "place") × ArePlaceRows rows) ⊎ ((name ≡ codes "check") × AreCheckRows rows)
+
 -- clap parses by this command as by `app`
 abbrev pub IsReadAs : App → Command → Type 0
 IsReadAs app c = app_of c ≡ app
