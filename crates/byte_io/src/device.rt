@@ -22,8 +22,8 @@ pub trait Source {
     // The number of reads that have failed.
     ghost failures: { Self → ℕ };
 
-    /// An estimate of the number of bytes left, or 0 if there is none. It decides what is told of
-    /// the progress and nothing else.
+    /// An estimate of the number of bytes left, or 0 if there is none, as of a pipe. It decides what
+    /// is told of the progress, and whether a thread of its own waits for reads; nothing else.
     fn expected(&self) -> usize {
         0
     }

@@ -71,8 +71,36 @@ impl Worker {
     }
 }
 
+/// A worker takes its chunk, and the calling thread reads ahead: before the chunk, or beside it if
+/// the read may wait.
+fn work_and_read<R: Threads + Sync, A: ReadAhead>(
+    rt: &R,
+    alloc: Global,
+    worker: &mut Worker,
+    chunk: &[u8],
+    layout: &Layout<'_>,
+    width: Option<usize>,
+    ahead: &mut A,
+)
+    requires ahead { A.can_read ahead.old }
+    ensures chunk { TakesChunkBy layout.now width chunk.now worker.old worker.new }
+    ensures ahead { A.has_read ahead.old ahead.new }
+{
+    if ahead.may_wait() {
+        thread::join_mut(
+            rt,
+            &mut || worker.work(alloc, chunk, layout, width),
+            &mut || ahead.read(),
+        );
+        return;
+    }
+    // A thread of its own for the read would be one more than there are processors.
+    ahead.read();
+    worker.work(alloc, chunk, layout, width);
+}
+
 /// Each worker takes its chunk: the last one in the calling thread, which starts a thread for each
-/// of the others, and reads ahead before its own chunk.
+/// of the others, and reads ahead.
 #[cycle(workers)]
 pub fn work_parallel<R: Threads + Sync, A: ReadAhead>(
     rt: &R,
@@ -97,9 +125,7 @@ pub fn work_parallel<R: Threads + Sync, A: ReadAhead>(
     let (chunk, chunks) = (chunks[0], &chunks[1..]);
     let (width, widths) = (widths[0], &widths[1..]);
     if workers.is_empty() {
-        // A thread of its own for the read would be one more than there are processors.
-        ahead.read();
-        worker.work(alloc, chunk, layout, width);
+        work_and_read(rt, alloc, worker, chunk, layout, width, ahead);
         return;
     }
     // One thread starts all: of threads that start others, two may do so at once, and Linux then
