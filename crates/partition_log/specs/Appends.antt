@@ -1,7 +1,5 @@
 -- Appends of several records, one after another.
-use Rattle.std.specs.Prelude.{◌≡◌, ◌<◌, ℕ, List, [], ◌∷◌, ◌++◌, Err, IsOk, length, fold, map, slice_index_or, take}
-use Rattle.lane_words.specs.Answers.{Answers}
-use Rattle.lane_words.specs.declared.Refusal.{Refusal}
+use Rattle.std.specs.Prelude.{◌≡◌, ℕ, List, [], ◌∷◌, ◌++◌, IsOk, fold, map}
 pub use Rattle.key_index.specs.Keys.{lent}
 use Rattle.partition_log.specs.Keys.{Key, Keyed, of_first}
 use Rattle.partition_log.specs.Logs.{AreLogsOf, IsOfTopic, PartitionLogs, answer_at, place_in, with_record_at}

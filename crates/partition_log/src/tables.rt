@@ -39,9 +39,29 @@ pub fn entry_tables<R: Threads + Sync>(
         taken.now.workers.now r.1.numbers.items) }
 {
     let (interned, places) = interned_entries(rt, alloc, logs, taken)?;
-    let places = tables_of(alloc, taken, &places)?;
-    let numbers = tables_of(alloc, taken, &interned.ids)?;
-    Ok((interned.keys, Tables { places, numbers }))
+    let tables = both_tables(alloc, taken, &places, &interned.ids)?;
+    Ok((interned.keys, tables))
+}
+
+/// Of the partitions and the numbers that all entries have in the order of the segments, what those
+/// of each worker have, by code.
+fn both_tables(
+    alloc: Global,
+    taken: &TakenRecords<'_>,
+    places: &[u32],
+    numbers: &[u32],
+) -> Result<Tables, Memory>
+    requires taken { AreTaken taken.now }
+    requires places { length places.now ≡ length (entry_keys taken.now) }
+    requires numbers { length numbers.now ≡ length (entry_keys taken.now) }
+    ensures places { IfOk result (λ r. (f : Key → ℕ) → places.now ≡ map f (entry_keys taken.now)
+        → AreTablesOf f taken.now.workers.now r.places.items) }
+    ensures numbers { IfOk result (λ r. (f : Key → ℕ) → numbers.now ≡ map f (entry_keys taken.now)
+        → AreTablesOf f taken.now.workers.now r.numbers.items) }
+{
+    let places = tables_of(alloc, taken, places)?;
+    let numbers = tables_of(alloc, taken, numbers)?;
+    Ok(Tables { places, numbers })
 }
 
 /// The keys of all entries interned, and the partition of each, in the order of the segments.

@@ -1,5 +1,6 @@
 use Rattle.std.proofs.Common.{◌≡◌, ◌<◌, ◌∙◌, ◌∷◌, ◌++◌, [], Bor, Vec, Global, List, arith, ap, ap₂, ◌+◌, get_or, length, map, subst, sym, take}
 use Rattle.std.specs.Prelude.{slice_set}
+use Rattle.std.proofs.lemmas.Grind.{common_steps}
 use Rattle.std.proofs.lemmas.List.{get_or-map, map_more, length-map, map-set}
 use Rattle.key_index.specs.Keys.{Key, lent}
 use Rattle.key_index.specs.Private.Sharded.{AreRows, shard_of}
@@ -38,3 +39,9 @@ loop-i-preserved c =
       shards = c.in_ok-push.ensures.items ∙ ap₂ (λ ss n. ss ++ n ∷ []) c.loop-i.invariant.shards at ∙ sym (map_more f all i [] i_in);
       rows = subst (λ (ls : List (List Key)). AreRows f SHARDS (take (i + 1) all) ls) (sym more) (scattered-more f SHARDS all i each s i_in at below c.loop-i.invariant.rows);
     }
+
+pub index_mut-row-requires : goal.index_mut-row-requires
+index_mut-row-requires c = grind (arith, common_steps)
+
+pub returns : goal.returns
+returns c = grind (arith, common_steps)

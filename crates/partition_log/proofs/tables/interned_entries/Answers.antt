@@ -1,4 +1,5 @@
-use Rattle.std.proofs.Common.{◌≡◌, ◌∙◌, ap, length, map, rules}
+use Rattle.std.proofs.Common.{◌≡◌, ◌∙◌, ap, length, map, rules, arith}
+use Rattle.std.proofs.lemmas.Grind.{common_steps}
 use Rattle.std.proofs.lemmas.List.{take_at}
 use Rattle.key_index.specs.Keys.{lent}
 use Rattle.partition_log.specs.Private.Tables.{entry_keys, key_taken, topic_taken}
@@ -24,3 +25,9 @@ returns-clause-places g c =
     let keys : lent c.deref-2.result.now ≡ map (key_taken taken.has_topics) (entry_keys taken) = ap lent here ∙ c.in_ok-topics.ensures.keys ∙ ap (map (key_taken taken.has_topics)) read in
     let topics : c.deref.result.now ≡ map (topic_taken taken.has_topics) (entry_keys taken) = c.deref.ensures.value ∙ c.in_ok-topics.ensures.topics ∙ ap (map (topic_taken taken.has_topics)) read in
     (rw c.in_ok-places.was at c.in_ok-interned.ensures.places) ∙ entry-places c.args.logs.now taken.has_topics c.deref-2.result.now c.deref.result.now (entry_keys taken) keys topics
+
+pub intern_and_place-requires-clause-bound : goal.intern_and_place-requires-clause-bound
+intern_and_place-requires-clause-bound g c κs within = grind (arith, common_steps)
+
+pub returns-clause-keys : goal.returns-clause-keys
+returns-clause-keys g c = grind (arith, common_steps)
