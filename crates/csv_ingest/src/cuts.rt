@@ -104,8 +104,8 @@ pub fn cut_behind(before: &[u8], next: &[u8], delimiter: u8) -> Option<usize>
     open_cut(next, stand, delimiter)
 }
 
-/// A file in at most `pieces` pieces; 0 are one. All but the last have about `step` bytes, or as many
-/// as leave `left` to it.
+/// A file in at most `pieces` pieces; 0 are one. All but the last have about `step` bytes, or as
+/// many as leave about `left` to it.
 pub fn pieces_of(
     alloc: Global,
     file: &[u8],
