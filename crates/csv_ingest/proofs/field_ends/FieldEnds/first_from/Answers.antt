@@ -14,3 +14,6 @@ returns-then-later-ne0-clause-first c =
       | inl none ↦ absurd (omega (arith, none, small, c.if-later-ne0.true))
       | inr known ↦ first-known 64 c.args.delimiter 13 10 c.args.text.now ends.from c.args.at ends.marks _ known.0 c.if-self-at.true known.1 first.1 first.2
     ]
+
+pub returns-then-later-ne0-clause-ends : goal.returns-then-later-ne0-clause-ends
+returns-then-later-ne0-clause-ends c = c.requires.ends

@@ -1,4 +1,4 @@
-use Rattle.std.proofs.Common.{arith, rules, w64, ◌+◌}
+use Rattle.std.proofs.Common.{arith, rules, w64, ◌+◌, inl, inr, refl}
 use Rattle.std.proofs.lemmas.Nat.Bits.{bit_at-trailing_zeros}
 use Rattle.csv_ingest.proofs.Marks.{first-mark, later-first, no-marks, none-both}
 use Rattle.csv_ingest.proofs.field_ends.FieldEnds.look_from.Goals as goal
@@ -24,3 +24,13 @@ loop-at-preserved c =
       none = none-both d 13 10 text c.args.start at (at + 64) c.loop-at.invariant.none
           (no-marks 64 d 13 10 text at c.marks_among-marks.result c.marks_among-marks.ensures c.if-marks-ne0.false);
     }
+
+pub returns-then-marks-ne0-clause-ends : goal.returns-then-marks-ne0-clause-ends
+returns-then-marks-ne0-clause-ends c = inr (c.loop-at-test.true, c.marks_among-marks.ensures)
+
+pub returns-clause-first : goal.returns-clause-first
+returns-clause-first c =
+    later-first c.args.delimiter 13 10 c.args.text.now c.args.start c.loop-at.at c.first_of.result c.loop-at.invariant.order c.loop-at.invariant.none c.first_of.ensures
+
+pub returns-clause-ends : goal.returns-clause-ends
+returns-clause-ends c = inl refl
