@@ -23,7 +23,7 @@ use std::test::Fail;
 use std::thread::Threads;
 
 /// Numbers of threads that count, and sizes of windows in bytes.
-const STREAMS: [(usize, usize); 6] = [(1, 1), (1, 8), (2, 3), (3, 20), (4, 0), (4, 200)];
+const STREAMS: [(usize, usize); 6] = [(1, 1), (1, 8), (2, 3), (3, 21), (4, 0), (4, 200)];
 
 /// Adds a key and its count to a text.
 fn add_count(text: &mut Vec<u8>, key: &[u8], count: u64) -> Result<(), Memory> {
@@ -148,7 +148,8 @@ fn text_by_stream<R: Threads + Sync + RandomSource>(
         return Err(Refusal::Memory);
     };
     let mut counting = Counting::new(alloc, hasher, stream.0, 1, false)?;
-    let mut source = FromRead::new(file);
+    // With an estimate the thread of the last chunk reads, and else one of its own.
+    let mut source = FromRead::expecting(file, stream.1 % 2);
     match count_file(rt, alloc, &mut source, options, stream.1, &mut counting)? {
         None => Ok(text_of_counting(rt, alloc, hasher, counting, options)?),
         Some(refusal) => Err(refusal),
