@@ -13,7 +13,7 @@ use crate::hashes::hashes_in;
 use crate::merging::Segment;
 use key_index::KeyHash;
 use lane_words::Memory;
-use parallel::{LEAST_ENTRIES, collected, no_results};
+use parallel::{LEAST_KEYS, collected, no_results};
 use std::alloc::Global;
 use std::thread;
 use std::thread::Threads;
@@ -163,7 +163,7 @@ pub fn threads_for(place: &Place, pieces: usize) -> usize
     ensures { 0 < result }
 {
     // A part has twice as many cells as there are entries, or more.
-    if place.mask / 2 < LEAST_ENTRIES {
+    if place.mask / 2 < LEAST_KEYS {
         return 1;
     }
     pieces.max(1)

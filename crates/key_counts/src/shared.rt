@@ -15,7 +15,7 @@ use crate::merging::{Segment, behind};
 use crate::twins::Twins;
 use key_index::{KeyDictionary, KeyMap, split_keys};
 use lane_words::{MOST_RECORDS, Memory};
-use parallel::LEAST_ENTRIES;
+use parallel::LEAST_KEYS;
 use std::alloc::Global;
 use std::hash::RandomState;
 use std::random::RandomSource;
@@ -153,7 +153,7 @@ fn numbered<R: Threads + Sync + RandomSource>(
     requires { length keys.now ≤ MOST_RECORDS }
     ensures { IfOk result (AreNumbered (lent keys.now)) }
 {
-    if keys.len() >= LEAST_ENTRIES {
+    if keys.len() >= LEAST_KEYS {
         return numbered_parallel(rt, alloc, keys, capacity);
     }
     let Ok(hasher) = RandomState::new(rt) else {

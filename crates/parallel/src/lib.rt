@@ -5,9 +5,8 @@
 //!   into the list of their values, in order. It fails where one of them, or the new list, ran out
 //!   of memory.
 //! - `drop_each` drops every item, which no contract can say.
-//! - The thresholds (`LEAST_KEYS`, `LEAST_ENTRIES`, `LEAST_BYTES`, `LEAST_DROPS`) decide how long a
-//!   call takes, never what it returns: below them, starting threads takes longer than the work
-//!   itself.
+//! - The thresholds (`LEAST_KEYS`, `LEAST_BYTES`, `LEAST_DROPS`) decide how long a call takes,
+//!   never what it returns: below them, starting threads takes longer than the work itself.
 //!
 //! Tests: `log_tests`, through the crates that call it.
 #![tactic(auto)]
@@ -22,9 +21,6 @@ use std::thread::Threads;
 /// Fewer keys than these are hashed, placed and appended by the calling thread alone. It is also
 /// the number of keys that a thread takes at a time.
 pub const LEAST_KEYS: usize = 4096;
-
-/// Fewer counted keys than these are merged by the calling thread alone.
-pub const LEAST_ENTRIES: usize = 1 << 18;
 
 /// The least number of bytes of a file that is worth a thread to read.
 pub const LEAST_BYTES: usize = 1 << 18;
