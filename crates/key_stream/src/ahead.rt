@@ -58,7 +58,7 @@ impl<S: Source> ReadAhead for Ahead<'_, S> {
     ghost has_read = { HasReadAhead S.left S.failures };
 
     fn may_wait(&self) -> bool {
-        self.source.expected() == 0
+        !self.at_end && self.source.expected() == 0
     }
 
     fn read(&mut self) {
