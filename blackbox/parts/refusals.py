@@ -44,9 +44,9 @@ class Subject(NamedTuple):
     without: frozenset[str] = frozenset({"thread"})
     # The kinds that it can do without.
     spared: frozenset[str] = frozenset({"malloc"})
-    # How many of its first threads it can do without: one reads on in a file that fills the first window, one helps to number
-    # the keys.
+    # How many of its first threads it can do without: one reads on from a pipe, one helps to number the keys.
     helpers: int = 0
+    stdin: bytes = b""
 
 
 def lines_of(keys: list[bytes]) -> bytes:
@@ -65,8 +65,9 @@ def done(stdout: bytes) -> Outcome:
 SUBJECTS = [
     Subject("a count", "count f", {"f": FIVE}, done(FIVE_COUNTS)),
     Subject("a count of quoted fields", "count f --header --column 2", {"f": QUOTED}, done(QUOTED_COUNTS)),
-    Subject("a count of long keys", "count f --partitions 4096", {"f": lines_of(LONG_KEYS)}, done(counts_of(LONG_KEYS)),
-            frozenset(), helpers=1),
+    Subject("a count of long keys", "count f --partitions 4096", {"f": lines_of(LONG_KEYS)}, done(counts_of(LONG_KEYS))),
+    Subject("a count of long keys from a pipe", "count - --partitions 4096", {}, done(counts_of(LONG_KEYS)),
+            frozenset({"open"}), helpers=1, stdin=lines_of(LONG_KEYS)),
     Subject("a count of many keys", "count f", {"f": lines_of(MANY_KEYS)}, done(counts_of(MANY_KEYS))),
     Subject("a count of blocks", "count f", {"f": b"".join(key + b",more\n" for key in KEYS_IN_BLOCKS)},
             done(counts_of(KEYS_IN_BLOCKS)), frozenset(), frozenset({"malloc", "thread"})),
@@ -82,7 +83,7 @@ SUBJECTS = [
     Subject("a replay of each line over quoted fields", "replay f s --header --column 2", {"f": QUOTED, "s": SCRIPT}, None,
             frozenset(), helpers=1),
     Subject("a replay over long keys", "replay f s --batch 1", {"f": lines_of(LONG_KEYS), "s": b"join A\njoin B\ndrain\n"},
-            None, frozenset(), helpers=2),
+            None, frozenset(), helpers=1),
     Subject("a replay over many keys", "replay f s", {"f": lines_of(MANY_KEYS), "s": b"join A\njoin B\ndrain\n"}, None,
             frozenset(), helpers=1),
     Subject("a replay of a bad line", "replay f s", {"f": FIVE, "s": b"join A\njion B\n"},
@@ -111,7 +112,7 @@ SUBJECTS = [
     Subject("a run over quoted fields", "run f s --header --column 2 --batch 1",
             {"f": QUOTED, "s": b"# a plan\njoin A\njoin B\nlose A\njoin C\n"}, None, frozenset(), helpers=1),
     Subject("a run over long keys", "run f s", {"f": lines_of(LONG_KEYS), "s": b"join A\njoin B\n"}, None, frozenset(),
-            helpers=2),
+            helpers=1),
 ]
 
 
@@ -132,12 +133,13 @@ class Sweep:
         self.failures: dict[str, int] = {}
         for name, text in subject.files.items():
             (folder / name).write_bytes(text)
-        shown = run(self.words, folder)
+        shown = run(self.words, folder, stdin=subject.stdin)
         self.wanted = subject.outcome or shown
         self.is_well = shown == self.wanted and (subject.outcome is not None or shown.status == 0 and shown.stdout != b"")
 
     def run(self, **environment: str) -> Outcome:
-        return run(self.words, self.folder, dict(os.environ, LD_PRELOAD=str(self.library), **environment))
+        preloaded = dict(os.environ, LD_PRELOAD=str(self.library), **environment)
+        return run(self.words, self.folder, preloaded, stdin=self.subject.stdin)
 
     def faults(self, kind: str, **how: str) -> Iterator[str]:
         """Lets the first call of this kind fail, then the second, until a run makes no more such calls."""
