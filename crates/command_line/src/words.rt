@@ -5,11 +5,10 @@ ghost use Rattle.clap.specs.Words.{fault_of, first_of, found_of, kind_of, rows_o
 ghost use Rattle.clap.specs.Simple.{App, new_app, with_rule, with_subcommand};
 ghost use Rattle.clap.specs.Walk.{Rule};
 ghost use Rattle.command_line.specs.Columns.{IsColumnOf};
-ghost use Rattle.command_line.specs.CommandLine.{HasOptions, HasPlaceOptions, HasScript, HaveBadList, IsBadListReport, IsJobOf, IsNumber, IsNumberIfGiven, IsRefusal, HasCheckOptions};
+ghost use Rattle.command_line.specs.CommandLine.{HasOptions, HasPlaceOptions, HasScript, HaveBadList, IsBadListReport, IsJobOf, IsNumber, IsNumberIfGiven, IsRefusal, HasCheckOptions, code_argument, count_app, draw_app, explain_app, flag, keycount_app, keycount_top, number_option, path, place_app, replay_app, run_app, text_option, trace_app, with_options, with_script, with_top, check_app, value_argument, with_numbers};
 ghost use Rattle.command_line.specs.Delimiters.{IsDelimiterOf};
 ghost use Rattle.command_line.specs.Topics.{AreTopicsOf};
 ghost use Rattle.command_line.specs.Private.CommandLine.{IsCommand, IsJobOfRows, IsOptionalNumber, IsReadAs, AreCountRows, AreExplainRows, AreOptionRows, ArePlaceRows, AreScriptRows, IsBadReport, IsUsageOf, ReportsBadColumn, ReportsBadDelimiter, ReportsBadList, ReportsBadOption, AreCheckRows, AreRowsOf};
-ghost use Rattle.command_line.specs.CommandLine.{code_argument, count_app, draw_app, explain_app, flag, keycount_app, keycount_top, number_option, path, place_app, replay_app, run_app, text_option, trace_app, with_options, with_script, with_top, check_app, value_argument, with_numbers};
 
 use crate::columns::{is_numeral, parse_column};
 use crate::delimiters::parse_delimiter;
@@ -199,8 +198,7 @@ fn flag<'a>(alloc: Global, name: &'a str, help: &'a str) -> Arg<'a>
         .action(ArgAction::SetTrue)
 }
 
-/// Adds an argument to a command. Commands are passed on as results: each `?` where a command is
-/// owned is one more way to drop it, which the proofs pay for.
+/// Adds an argument to a command, if there is one: a `?` for each would cost the proofs much time.
 fn with_arg<'a>(
     command: Result<Command<'a>, AllocError>,
     arg: Arg<'a>,
@@ -331,8 +329,7 @@ fn check_command<'a>(alloc: Global) -> Result<Command<'a>, AllocError>
     with_arg(command, number_option(alloc, "most", MOST_HELP, MOST_ROWS))
 }
 
-/// Adds what `replay`, `trace`, `draw` and `run` have: a file, a script, the common options and
-/// `--batch`.
+/// Adds what jobs over a script have: a file, the script, the common options and `--batch`.
 fn with_script<'a>(
     alloc: Global,
     command: Command<'a>,
