@@ -1,15 +1,9 @@
 pub mod Chunked
-pub mod Counted
 pub mod Filled
-pub mod Firsts
-pub mod Judged
 pub mod Lengths
-pub mod Marked
-pub mod Revealed
-pub mod Rounded
 pub mod Splits
 pub mod Started
-pub mod Taken
 pub mod TakenFirst
 pub mod Totalled
+pub mod Turns
 pub mod Widths

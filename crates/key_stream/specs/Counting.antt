@@ -1,37 +1,56 @@
 -- What was counted of a file so far.
-use Rattle.std.specs.Prelude.{◌≡◌, ℕ, Bool, true, false, List, [], ◌++◌, count_by, take, drop, length, map, Err, Option, vec_len}
+use Rattle.std.specs.Prelude.{◌≡◌, ◌⊎◌, ◌<◌, ℕ, Bool, true, false, List, [], ◌++◌, count_by, take, drop, length, map, Err, Option, vec_len}
 use Rattle.std.specs.Str.{bytes_eq}
 use Rattle.std.specs.Io.KnownBytes.{IsAtEnd}
 use Rattle.lane_words.specs.declared.Refusal.{Refusal}
 use Rattle.csv_ingest.specs.KeyFile.{Taking, taken_of}
+use Rattle.csv_ingest.specs.Pieces.{ArePieces}
+use Rattle.csv_ingest.specs.Private.Pieces.{bytes_of}
 use Rattle.csv_ingest.specs.Rounds.{IsSplitPoint}
 use Rattle.key_index.specs.Keys.{Key, distinct}
-use Rattle.key_counts.specs.Partition.{lens_of}
-use Rattle.key_counts.specs.Recorded.{AreRecorded, all_records}
-use Rattle.key_counts.specs.Rounds.{AreSegmented, HaveTaken, segments_from}
+use Rattle.key_counts.specs.Counts.{Entries}
+use Rattle.key_counts.specs.Recorded.{AreRecorded}
+use Rattle.key_counts.specs.Rounds.{AreSegmented, HaveTaken}
 use Rattle.key_counts.specs.Segments.{keys_of}
+use Rattle.key_counts.specs.declared.merging.Segment.{Segment}
 use Rattle.key_stream.specs.Reading.{Fills}
-use Rattle.key_stream.specs.Rounds.{IsRead, ReadsRound, entries_in}
+use Rattle.key_stream.specs.Rounds.{IsRead, entries_in}
 use Rattle.key_stream.specs.declared.counting.Counting.{Counting}
+use Rattle.key_stream.specs.declared.round.Round.{Round}
 
--- these bytes of a file were read and had no fault; the workers took their records, which have
--- these keys, the segments have the workers' entries, and the chunks their records
-pub record IsCounted (delimiter : ℕ) (wanted : Taking) (header : Bool) (read : List ℕ)
-    (counting : Counting) : Type 0 where
+-- these bytes of a file were read and had no fault; workers with these entries took their records,
+-- which have these keys, the segments have the entries, and the chunks the records
+pub record IsCountedBy (delimiter : ℕ) (wanted : Taking) (header : Bool) (read : List ℕ)
+    (round : Round) (workers : List Entries) (segments : List Segment) (marks : List ℕ)
+    (coded : Bool) (chunks : List Segment) (ends : List ℕ) : Type 0 where
   pub keys : List (List ℕ)
-  pub so : IsRead delimiter wanted header read counting.round keys
-  pub taken : HaveTaken keys (keys_of (entries_in counting.workers.items) counting.segments.items)
-      (entries_in counting.workers.items)
-  pub parts : AreSegmented (entries_in counting.workers.items) counting.segments.items
-      counting.marks.items
-  pub recorded : AreRecorded keys counting.coded (entries_in counting.workers.items)
-      counting.chunks.items counting.ends.items
+  pub so : IsRead delimiter wanted header read round keys
+  pub taken : HaveTaken keys (keys_of workers segments) workers
+  pub parts : AreSegmented workers segments marks
+  pub recorded : AreRecorded keys coded workers chunks ends
+
+-- the same of workers with these entries, and all else that was counted
+abbrev pub IsCountedOf : ℕ → Taking → Bool → List ℕ → List Entries → Counting → Type 0
+IsCountedOf delimiter wanted header read workers counting =
+    IsCountedBy delimiter wanted header read counting.round workers counting.segments.items
+    counting.marks.items counting.coded counting.chunks.items counting.ends.items
+
+-- the same of its own workers
+abbrev pub IsCounted : ℕ → Taking → Bool → List ℕ → Counting → Type 0
+IsCounted delimiter wanted header read counting =
+    IsCountedOf delimiter wanted header read (entries_in counting.workers.items) counting
 
 -- each worker has a mark and an end
 abbrev pub HasMarks : Counting → Type 0
 HasMarks counting =
     (vec_len counting.marks ≡ vec_len counting.workers)
     × (vec_len counting.ends ≡ vec_len counting.workers)
+
+-- the same was counted but for the workers
+abbrev pub IsCountedAs : Counting → Counting → Type 0
+IsCountedAs old new =
+    (new.round ≡ old.round) × (new.segments ≡ old.segments) × (new.marks ≡ old.marks)
+    × (new.coded ≡ old.coded) × (new.chunks ≡ old.chunks) × (new.ends ≡ old.ends)
 
 -- the first n bytes of a text were taken: whatever was read before it, up to a split point, and
 -- whatever comes behind it, if it is not the end
@@ -49,18 +68,21 @@ HasFaultIn delimiter wanted header at_end text old fault =
     → IsCounted delimiter wanted header read old
     → taken_of delimiter wanted header (read ++ (text ++ more)) ≡ Err fault
 
--- the first `count` of these pieces were taken
+-- the first `count` of these pieces were taken: whatever was read before them, up to a split point
 abbrev pub TakesPieces : ℕ → Taking → Bool → List (List ℕ) → ℕ → Counting → Counting → Type 0
 TakesPieces delimiter wanted header pieces count old new =
-    ReadsRound delimiter wanted header old.round new.round pieces count
-    (entries_in old.workers.items) (entries_in new.workers.items)
-    × (new.marks.items ≡ lens_of (entries_in new.workers.items))
-    × (new.segments.items ≡ old.segments.items
-    ++ segments_from 0 old.marks.items (entries_in new.workers.items))
-    × (new.ends.items ≡ lens_of (all_records (entries_in new.workers.items)))
-    × (new.chunks.items ≡ old.chunks.items
-    ++ segments_from 0 old.ends.items (all_records (entries_in new.workers.items)))
-    × (new.coded ≡ old.coded)
+    (read text : List ℕ) → ArePieces delimiter text pieces → IsSplitPoint delimiter read text
+    → IsCounted delimiter wanted header read old
+    → IsCounted delimiter wanted header (read ++ bytes_of (take count pieces)) new
+
+-- one of the first `count` of these pieces has a fault: whatever was read before them, up to a
+-- split point, it is the fault of the file, which goes on or ends with the last piece
+abbrev pub HasFault : ℕ → Taking → Bool → List (List ℕ) → ℕ → Counting → Refusal → Type 0
+HasFault delimiter wanted header pieces count old fault =
+    (read text more : List ℕ) → ArePieces delimiter text pieces
+    → IsSplitPoint delimiter read (text ++ more) → (count < length pieces) ⊎ (more ≡ [])
+    → IsCounted delimiter wanted header read old
+    → taken_of delimiter wanted header (read ++ (text ++ more)) ≡ Err fault
 
 -- a window was filled up from its source, unless that was at its end
 abbrev pub Refills : Bool → Bool → Option (List ℕ) → Option (List ℕ) → List ℕ → List ℕ → Type 0

@@ -1,17 +1,17 @@
 -- What workers do with the chunks of a file that has a layout.
-use Rattle.std.specs.Prelude.{◌≡◌, ◌≤◌, ◌<◌, ℕ, List, [], length, Option, None, slice_index_or, take}
+use Rattle.std.specs.Prelude.{◌≡◌, ◌≤◌, ◌<◌, ℕ, List, length, Option, None, slice_index_or, take}
 use Rattle.std.specs.Borrow.{Bor}
 use Rattle.lane_words.specs.declared.Refusal.{Refusal}
 use Rattle.csv_ingest.specs.Private.Pieces.{lent}
 use Rattle.csv_ingest.specs.Private.Wanted.{taking}
 use Rattle.csv_ingest.specs.Rounds.{width_after_all}
-use Rattle.key_stream.specs.Chunks.{TakesChunk}
-use Rattle.key_stream.specs.Counting.{TakesPieces}
-use Rattle.key_stream.specs.Rounds.{HasFault, ReadsRound, entries_in}
+use Rattle.key_counts.specs.Counts.{Entries}
+use Rattle.key_stream.specs.Counting.{HasFault, TakesPieces}
+use Rattle.key_stream.specs.Settling.{Fails, Settles}
 use Rattle.key_stream.specs.Splits.{HasSplitFault, TakesSplit}
+use Rattle.key_stream.specs.Turns.{HasWorked, HaveWorked}
 use Rattle.key_stream.specs.declared.counting.Counting.{Counting}
 use Rattle.key_stream.specs.declared.counting.Split.{Split}
-use Rattle.key_stream.specs.declared.round.Round.{Round}
 use Rattle.key_stream.specs.declared.worker.Layout.{Layout}
 use Rattle.key_stream.specs.declared.worker.Worker.{Worker}
 
@@ -22,37 +22,51 @@ HasWidths delimiter width chunks widths =
     (i : ℕ) → i ≤ length chunks
     → slice_index_or widths i None ≡ width_after_all delimiter width (take i (lent chunks))
 
--- a worker took a chunk
-abbrev pub TakesChunkBy : Layout → Option ℕ → List ℕ → Worker → Worker → Type 0
-TakesChunkBy layout width chunk old new =
-    TakesChunk layout.delimiter (taking layout.wanted.now) layout.header width chunk
-    old.counter.entries new.counter.entries new.found
+-- a worker took more chunks, whatever entries its first turn had
+abbrev pub WorksBy : Layout → List (Option ℕ) → List (Bor (List ℕ)) → Worker → Worker → Type 0
+WorksBy layout widths chunks old new =
+    (start : Entries)
+    → HasWorked layout.delimiter (taking layout.wanted.now) layout.header widths (lent chunks)
+    start old
+    → HasWorked layout.delimiter (taking layout.wanted.now) layout.header widths (lent chunks)
+    start new
 
--- each worker took the chunk of its index
-abbrev pub TakesEachBy : Layout → List (Option ℕ) → List (Bor (List ℕ)) → List Worker
-    → List Worker → Type 0
-TakesEachBy layout widths chunks olds news =
-    (i : ℕ) (d : Worker) → i < length chunks
-    → TakesChunkBy layout (slice_index_or widths i None) (slice_index_or (lent chunks) i [])
-    (slice_index_or olds i d) (slice_index_or news i d)
-
--- the workers took the first `count` of these pieces
-abbrev pub ReadsRoundBy : Layout → Round → Round → List (List ℕ) → ℕ → List Worker → List Worker
+-- each of these workers did
+abbrev pub WorkBy : Layout → List (Option ℕ) → List (Bor (List ℕ)) → List Worker → List Worker
     → Type 0
-ReadsRoundBy layout before after pieces count olds news =
-    ReadsRound layout.delimiter (taking layout.wanted.now) layout.header before after pieces count
-    (entries_in olds) (entries_in news)
+WorkBy layout widths chunks olds news =
+    (i : ℕ) (d : Worker) → i < length olds
+    → WorksBy layout widths chunks (slice_index_or olds i d) (slice_index_or news i d)
 
--- one of the first `count` of these pieces has a fault
-abbrev pub HasFaultBy : Layout → Round → List (List ℕ) → ℕ → Refusal → Type 0
-HasFaultBy layout before pieces count fault =
-    HasFault layout.delimiter (taking layout.wanted.now) layout.header before pieces count fault
+-- from these entries on each of these workers took chunks in its turns
+abbrev pub HaveWorkedBy : Layout → List (Option ℕ) → List (Bor (List ℕ)) → List Entries
+    → List Worker → Type 0
+HaveWorkedBy layout widths chunks starts workers =
+    HaveWorked layout.delimiter (taking layout.wanted.now) layout.header widths (lent chunks)
+    starts workers
 
--- the same of all that was counted
+-- the turns in which workers took chunks are settled
+abbrev pub SettlesBy : Layout → List (Option ℕ) → List (Bor (List ℕ)) → Counting → Counting
+    → Type 0
+SettlesBy layout widths chunks old new =
+    Settles layout.delimiter (taking layout.wanted.now) layout.header widths (lent chunks) old new
+
+-- one of them found this fault
+abbrev pub FailsBy : Layout → List (Option ℕ) → List (Bor (List ℕ)) → Counting → Refusal → Type 0
+FailsBy layout widths chunks old fault =
+    Fails layout.delimiter (taking layout.wanted.now) layout.header widths (lent chunks) old fault
+
+-- the first `count` of these pieces were taken
 abbrev pub TakesPiecesBy : Layout → List (List ℕ) → ℕ → Counting → Counting → Type 0
 TakesPiecesBy layout pieces count old new =
     TakesPieces layout.delimiter (taking layout.wanted.now) layout.header pieces count old new
 
+-- one of them has a fault
+abbrev pub HasFaultBy : Layout → List (List ℕ) → ℕ → Counting → Refusal → Type 0
+HasFaultBy layout pieces count old fault =
+    HasFault layout.delimiter (taking layout.wanted.now) layout.header pieces count old fault
+
+-- the same of a split text
 abbrev pub TakesSplitBy : Layout → Split → Counting → Counting → Type 0
 TakesSplitBy layout split old new =
     TakesSplit layout.delimiter (taking layout.wanted.now) layout.header split old new

@@ -1,9 +1,10 @@
 pub mod Ahead
 pub mod Chunks
 pub mod Counting
-pub mod Founds
 pub mod Layouts
 pub mod Reading
 pub mod Rounds
+pub mod Settling
 pub mod Splits
 pub mod Tally
+pub mod Turns

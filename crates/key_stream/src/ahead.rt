@@ -85,8 +85,7 @@ pub fn take_and_read<R: Threads + Sync, S: Source>(
 ) -> Result<bool, Refusal>
     requires failures { CanStillFail (S.failures source.old) }
     requires marks { HasMarks counting.old }
-    requires split { (split.now.count ≤ vec_len counting.old.workers)
-        × (split.now.count ≤ vec_len split.now.pieces) }
+    requires split { split.now.count ≤ vec_len split.now.pieces }
     ensures marks { OnOk result (HasMarks counting.new) }
     ensures len { vec_len counting.new.workers ≡ vec_len counting.old.workers }
     ensures coded { counting.new.coded ≡ counting.old.coded }

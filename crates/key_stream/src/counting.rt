@@ -1,36 +1,35 @@
 //! What was counted of a file so far.
 
-ghost use Rattle.std.specs.Prelude.{◌≡◌, ◌⊎◌, ◌≤◌, ◌<◌, ◌^◌, [], Bool, false, IfErr, IfOk, List, ℕ, OnOk, drop, length, replicate, vec_len};
+ghost use Rattle.std.specs.Prelude.{◌≡◌, ◌⊎◌, ◌≤◌, ◌<◌, ◌^◌, [], Bool, false, IfErr, IfOk, List, ℕ, OnOk, drop, length, replicate, slice_index_or, vec_len};
 ghost use Rattle.csv_ingest.specs.KeyFile.{Taking};
 ghost use Rattle.csv_ingest.specs.Pieces.{ArePieces};
 ghost use Rattle.csv_ingest.specs.Stand.{is_line_end};
 ghost use Rattle.csv_ingest.specs.Private.Pieces.{bytes_of, lent};
 ghost use Rattle.csv_ingest.specs.Private.Wanted.{taking};
 ghost use Rattle.key_counts.specs.Counts.{no_entries};
-ghost use Rattle.key_stream.specs.Counting.{HasMarks, IsCounted};
-ghost use Rattle.key_stream.specs.Layouts.{HasFaultBy, HasFaultInSplit, TakesPiecesBy, TakesSplitBy};
+ghost use Rattle.key_stream.specs.Counting.{HasMarks, IsCounted, IsCountedAs};
+ghost use Rattle.key_stream.specs.Layouts.{HasFaultInSplit, HaveWorkedBy, TakesSplitBy};
 ghost use Rattle.key_stream.specs.Rounds.{entries_in};
 ghost use Rattle.key_stream.specs.Splits.{IsSplitOf};
+ghost use Rattle.key_stream.specs.declared.worker.Worker.{Worker};
 ghost use Rattle.lane_words.specs.declared.Refusal.TheVariants as refusal;
 
 use crate::ahead::ReadAhead;
-use crate::round::{Round, take_first};
-use crate::segments::{add_segments, entry_counts, record_counts};
-use crate::worker::{Layout, Worker};
+use crate::round::{Round, widths_of};
+use crate::worker::{Chunks, Layout, Worker, work_parallel};
 use csv_ingest::pieces_of;
 use key_counts::{KeyCounter, Segment};
 use lane_words::{Memory, Refusal};
 use std::alloc::Global;
 use std::hash::RandomState;
+use std::sync::atomic::AtomicUsize;
 use std::thread::Threads;
 
 /// About how many bytes of a window are left to the next one, if more of the file follows.
 const LEFT: usize = 1 << 16;
 
-/// By one part in so many the last chunk is shorter than the others, since its thread reads the
-/// next window first. That takes a sixth of a chunk's time for short keys, and three fifths for
-/// quoted records.
-const SHORTER: usize = 4;
+/// How many chunks a window has for each thread. With fewer, threads wait longer for the last one.
+const CHUNKS_PER_THREAD: usize = 6;
 
 /// What was counted of a file so far.
 #[derive(Drop)]
@@ -60,6 +59,8 @@ pub struct Split<'t> {
     pub pieces: Vec<&'t [u8]>,
     /// How many of them the workers take: the first ones.
     pub count: usize,
+    /// In how many threads they are taken.
+    pub threads: usize,
     /// How many bytes these have together.
     pub taken: usize,
     /// The bytes behind these.
@@ -83,7 +84,7 @@ fn idle_workers(
         let counter = KeyCounter::new(alloc, hasher, coded)?;
         workers.push(Worker {
             counter,
-            found: Err(Refusal::Memory),
+            turns: Vec::new(alloc),
         })?;
     }
     Ok(workers)
@@ -109,26 +110,25 @@ fn rest_of(text: &[u8], taken: usize) -> &[u8]
     &text[taken..]
 }
 
-/// How many chunks a text of this length is worth: one for each `least` bytes that it has, at most
+/// How many threads a text of this length is worth: one for each `least` bytes that it has, at most
 /// one for each worker, and at least one.
-fn chunks_for(workers: usize, len: usize, least: usize) -> usize
+fn threads_for(workers: usize, len: usize, least: usize) -> usize
     ensures nonempty { 1 ≤ result }
     ensures value { len < least → result ≡ 1 }
 {
     workers.min(len / least.max(1)).max(1)
 }
 
-/// How long the chunks of so many bytes are. If more of the file is to be read, the last one, which
-/// has what the others leave, is shorter.
-fn chunk_length(len: usize, chunks: usize, at_end: bool) -> usize {
-    if at_end || chunks < 2 {
-        return len / chunks.max(1);
+/// How many chunks so many threads take.
+fn chunks_for(threads: usize) -> usize {
+    if threads < 2 {
+        return 1;
     }
-    len.saturating_mul(SHORTER) / (chunks.saturating_mul(SHORTER) - 1)
+    threads.saturating_mul(CHUNKS_PER_THREAD)
 }
 
-/// A text in so many chunks at most, of `chunk_length` bytes. If more of the file follows, one
-/// piece comes behind them: some `LEFT` bytes, or as many as a chunk if no record ends in these.
+/// A text in so many chunks at most, of one length. If more of the file follows, one piece comes
+/// behind them: some `LEFT` bytes, or as many as a chunk if no record ends in these.
 fn pieces_in<'t>(
     alloc: Global,
     text: &'t [u8],
@@ -145,12 +145,24 @@ fn pieces_in<'t>(
     } else {
         LEFT.min(text.len() / most)
     };
-    let step = chunk_length(text.len() - left, chunks, at_end);
+    let step = (text.len() - left) / chunks.max(1);
     let pieces = pieces_of(alloc, text, delimiter, most, step, left)?;
     if at_end || pieces.len() > 1 {
         return Ok(pieces);
     }
     pieces_of(alloc, text, delimiter, most, text.len() / most, 0)
+}
+
+/// Forgets the turns of the last round.
+fn forget_turns(workers: &mut [Worker])
+    ensures len { length workers.new ≡ length workers.old }
+    ensures entries { entries_in workers.new ≡ entries_in workers.old }
+    ensures turns { (i : ℕ) (d : Worker) → i < length workers.new
+        → (slice_index_or workers.new i d).turns.items ≡ [] }
+{
+    for w in 0..workers.len() {
+        workers[w].turns.clear();
+    }
 }
 
 impl Counting {
@@ -185,58 +197,32 @@ impl Counting {
         })
     }
 
-    /// Takes the first pieces of a text, one for each worker at most, and reads ahead.
-    fn take_pieces<R: Threads + Sync, A: ReadAhead>(
+    /// So many workers at most take the chunks, and the calling thread reads ahead.
+    fn work<R: Threads + Sync, A: ReadAhead>(
         &mut self,
         rt: &R,
         alloc: Global,
-        pieces: &[&[u8]],
-        count: usize,
+        chunks: Chunks<'_>,
+        threads: usize,
         layout: &Layout<'_>,
         ahead: &mut A,
-    ) -> Result<(), Refusal>
+    )
         requires ahead { A.can_read ahead.old }
-        requires marks { HasMarks self.old }
-        requires count { (count ≤ vec_len self.old.workers) × (count ≤ length pieces.now) }
-        ensures marks { OnOk result (HasMarks self.new) }
+        requires widths { length chunks.texts.now ≤ length chunks.widths.now }
+        ensures same { IsCountedAs self.old self.new }
         ensures len { vec_len self.new.workers ≡ vec_len self.old.workers }
-        ensures coded { self.new.coded ≡ self.old.coded }
-        ensures ok { OnOk result
-            (TakesPiecesBy layout.now (lent pieces.now) count self.old self.new) }
-        ensures err { IfErr result (λ e. (e ≡ refusal.Memory)
-            ⊎ HasFaultBy layout.now self.old.round (lent pieces.now) count e) }
+        ensures worked { HaveWorkedBy layout.now chunks.widths.now chunks.texts.now
+            (entries_in self.old.workers.items) self.new.workers.items }
         ensures ahead { A.has_read ahead.old ahead.new }
     {
-        let Counting {
-            workers,
-            segments,
-            marks,
-            chunks,
-            ends,
-            round,
-            ..
-        } = self;
-        match take_first(
-            rt,
-            alloc,
-            workers.as_mut_slice(),
-            count,
-            pieces,
-            layout,
-            *round,
-            ahead,
-        ) {
-            Ok(next) => *round = next,
-            Err(fault) => return Err(fault),
-        }
-        let workers = workers.as_slice();
-        add_segments(entry_counts(alloc, workers)?.as_slice(), marks, segments)?;
-        add_segments(record_counts(alloc, workers)?.as_slice(), ends, chunks)?;
-        Ok(())
+        forget_turns(self.workers.as_mut_slice());
+        let threads = threads.min(self.workers.len());
+        let next = AtomicUsize::new(0);
+        let workers = &mut self.workers.as_mut_slice()[..threads];
+        work_parallel(rt, alloc, workers, chunks, &next, layout, ahead);
     }
 
-    /// Splits a text into the chunks of a round, one for each worker at most; a short text is one
-    /// chunk. `at_end` says that nothing comes behind it. Otherwise what is behind the last line
+    /// Splits a text into the chunks of a round; a short text is one chunk. `at_end` says that nothing comes behind it. Otherwise what is behind the last line
     /// feed that is seen to end a record is left, and no byte is taken if there is none.
     pub fn split<'t>(
         &self,
@@ -247,25 +233,25 @@ impl Counting {
     ) -> Result<Split<'t>, Memory>
         requires { is_line_end delimiter ≡ false }
         ensures { IfOk result
-            (IsSplitOf delimiter at_end text.now (vec_len self.now.workers)) }
+            (IsSplitOf delimiter at_end text.now) }
     {
         let behind = usize::from(!at_end);
-        let workers = self.workers.len();
-        let chunks = chunks_for(workers, text.len(), self.least);
-        let pieces = pieces_in(alloc, text, delimiter, chunks, at_end)?;
-        let count = workers.min(pieces.len().saturating_sub(behind));
+        let threads = threads_for(self.workers.len(), text.len(), self.least);
+        let pieces = pieces_in(alloc, text, delimiter, chunks_for(threads), at_end)?;
+        let count = pieces.len().saturating_sub(behind);
         let taken = length_of(&pieces[..count]);
         Ok(Split {
             pieces,
             count,
+            threads,
             taken,
             rest: rest_of(text, taken),
             at_end,
         })
     }
 
-    /// Takes the chunks of a split text, each in a thread of its own: the last one in the calling
-    /// thread, which reads ahead first. Fails with the fault of the first bad record.
+    /// Takes the chunks of a split text in several threads, of which the calling one reads ahead
+    /// first. Fails with the fault of the first bad record.
     pub(crate) fn take<R: Threads + Sync, A: ReadAhead>(
         &mut self,
         rt: &R,
@@ -276,8 +262,7 @@ impl Counting {
     ) -> Result<(), Refusal>
         requires ahead { A.can_read ahead.old }
         requires marks { HasMarks self.old }
-        requires split { (split.now.count ≤ vec_len self.old.workers)
-            × (split.now.count ≤ vec_len split.now.pieces) }
+        requires split { split.now.count ≤ vec_len split.now.pieces }
         ensures marks { OnOk result (HasMarks self.new) }
         ensures len { vec_len self.new.workers ≡ vec_len self.old.workers }
         ensures coded { self.new.coded ≡ self.old.coded }
@@ -290,13 +275,15 @@ impl Counting {
             ahead.read();
             return Ok(());
         }
-        self.take_pieces(
-            rt,
-            alloc,
-            split.pieces.as_slice(),
-            split.count,
-            layout,
-            ahead,
-        )
+        let texts = &split.pieces[..split.count];
+        let Ok(widths) = widths_of(alloc, texts, layout.delimiter, self.round.width) else {
+            return Err(ahead.refuse());
+        };
+        let chunks = Chunks {
+            texts,
+            widths: widths.as_slice(),
+        };
+        self.work(rt, alloc, chunks, split.threads, layout, ahead);
+        self.settle(alloc, chunks, layout)
     }
 }

@@ -15,10 +15,9 @@
 mod ahead;
 mod counting;
 mod round;
-mod segments;
+mod settling;
 mod source;
 mod tally;
-mod verdict;
 mod window;
 mod worker;
 

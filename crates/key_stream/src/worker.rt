@@ -1,26 +1,50 @@
 //! What one thread does.
 
-ghost use Rattle.std.specs.Prelude.{◌≡◌, ◌≤◌, length};
+ghost use Rattle.std.specs.Prelude.{◌≡◌, ◌≤◌, ◌<◌, length};
 ghost use Rattle.csv_ingest.specs.Private.Wanted.{taking};
 ghost use Rattle.key_stream.specs.Chunks.{TakesChunk};
-ghost use Rattle.key_stream.specs.Layouts.{TakesChunkBy, TakesEachBy};
+ghost use Rattle.key_stream.specs.Layouts.{WorkBy, WorksBy};
 
 use crate::ahead::ReadAhead;
 use csv_ingest::{Wanted, take_chunk};
 use key_counts::KeyCounter;
-use lane_words::Refusal;
+use lane_words::{Memory, Refusal};
 use std::alloc::Global;
+use std::sync::atomic::{AtomicUsize, Ordering};
 use std::thread;
 use std::thread::Threads;
 
-/// A thread's counters, and what it found in the last chunk that it took.
+/// A chunk that a worker took.
+#[derive(Clone, Copy)]
+pub struct Turn {
+    /// The index of the chunk in its round.
+    pub chunk: usize,
+    /// How many keys the records in the chunk have, or the fault of the first bad one, whose number
+    /// counts from the chunk's first record.
+    pub found: Result<u64, Refusal>,
+    /// How many entries the worker had then.
+    pub entries: usize,
+    /// How many of its records had a code.
+    pub records: usize,
+}
+
+/// A thread's counters, and its turns in the last round.
 #[derive(Drop)]
 pub struct Worker {
     /// The keys of its chunks, counted. Between two chunks none waits.
     pub counter: KeyCounter,
-    /// How many keys the records in the last chunk have, or the fault of the first bad one, whose
-    /// number counts from the chunk's first record.
-    pub found: Result<u64, Refusal>,
+    /// The chunks that it took in the last round.
+    pub turns: Vec<Turn>,
+}
+
+/// The chunks of a round. A worker that is ready takes the next one: of threads that have a chunk
+/// each, all wait for the slowest.
+#[derive(Clone, Copy)]
+pub struct Chunks<'a> {
+    /// The chunks.
+    pub texts: &'a [&'a [u8]],
+    /// How long the first record of the file is, if it was read: before each chunk.
+    pub widths: &'a [Option<usize>],
 }
 
 /// How the chunks of a file are read.
@@ -63,84 +87,121 @@ fn count_chunk(
 }
 
 impl Worker {
-    /// Takes a chunk.
-    fn work(&mut self, alloc: Global, chunk: &[u8], layout: &Layout<'_>, width: Option<usize>)
-        ensures { TakesChunkBy layout.now width chunk.now self.old self.new }
+    /// Takes the chunk of this index, and returns whether it has no fault.
+    fn take_turn(
+        &mut self,
+        alloc: Global,
+        chunks: Chunks<'_>,
+        chunk: usize,
+        layout: &Layout<'_>,
+    ) -> Result<bool, Memory>
+        requires texts { chunk < length chunks.texts.now }
+        requires widths { chunk < length chunks.widths.now }
+        ensures { WorksBy layout.now chunks.widths.now chunks.texts.now self.old self.new }
     {
-        self.found = count_chunk(&mut self.counter, alloc, chunk, layout, width);
+        let at = self.turns.len();
+        // If there is no memory for the turn, the chunk is not taken.
+        self.turns.push(Turn {
+            chunk,
+            found: Err(Refusal::Memory),
+            entries: 0,
+            records: 0,
+        })?;
+        let (text, width) = (chunks.texts[chunk], chunks.widths[chunk]);
+        let found = count_chunk(&mut self.counter, alloc, text, layout, width);
+        self.turns[at] = Turn {
+            chunk,
+            found,
+            entries: self.counter.len(),
+            records: self.counter.counts().codes().len(),
+        };
+        Ok(found.is_ok())
+    }
+
+    /// Takes chunks until there are no more, or one has a fault.
+    fn work(&mut self, alloc: Global, chunks: Chunks<'_>, next: &AtomicUsize, layout: &Layout<'_>)
+        requires { length chunks.texts.now ≤ length chunks.widths.now }
+        ensures { WorksBy layout.now chunks.widths.now chunks.texts.now self.old self.new }
+    {
+        for _ in 0..chunks.texts.len() {
+            let chunk = next.fetch_add(1, Ordering::SeqCst);
+            if chunk >= chunks.texts.len() {
+                return;
+            }
+            if !self.take_turn(alloc, chunks, chunk, layout).unwrap_or(false) {
+                return;
+            }
+        }
     }
 }
 
-/// A worker takes its chunk, and the calling thread reads ahead: before the chunk, or beside it if
-/// the read may wait.
+/// A worker takes chunks, and the calling thread reads ahead: before them, or beside it if the read
+/// may wait.
 fn work_and_read<R: Threads + Sync, A: ReadAhead>(
     rt: &R,
     alloc: Global,
     worker: &mut Worker,
-    chunk: &[u8],
+    chunks: Chunks<'_>,
+    next: &AtomicUsize,
     layout: &Layout<'_>,
-    width: Option<usize>,
     ahead: &mut A,
 )
     requires ahead { A.can_read ahead.old }
-    ensures chunk { TakesChunkBy layout.now width chunk.now worker.old worker.new }
+    requires widths { length chunks.texts.now ≤ length chunks.widths.now }
+    ensures worker { WorksBy layout.now chunks.widths.now chunks.texts.now worker.old worker.new }
     ensures ahead { A.has_read ahead.old ahead.new }
 {
     if ahead.may_wait() {
         thread::join_mut(
             rt,
-            &mut || worker.work(alloc, chunk, layout, width),
+            &mut || worker.work(alloc, chunks, next, layout),
             &mut || ahead.read(),
         );
         return;
     }
     // A thread of its own for the read would be one more than there are processors.
     ahead.read();
-    worker.work(alloc, chunk, layout, width);
+    worker.work(alloc, chunks, next, layout);
 }
 
-/// Each worker takes its chunk: the last one in the calling thread, which starts a thread for each
-/// of the others, and reads ahead.
+/// The workers take chunks: the last one in the calling thread, which starts a thread for each of
+/// the others, and reads ahead.
 #[cycle(workers)]
 pub fn work_parallel<R: Threads + Sync, A: ReadAhead>(
     rt: &R,
     alloc: Global,
     workers: &mut [Worker],
-    chunks: &[&[u8]],
-    widths: &[Option<usize>],
+    chunks: Chunks<'_>,
+    next: &AtomicUsize,
     layout: &Layout<'_>,
     ahead: &mut A,
 )
     requires ahead { A.can_read ahead.old }
-    requires chunks { length workers.old ≡ length chunks.now }
-    requires widths { length chunks.now ≤ length widths.now }
+    requires widths { length chunks.texts.now ≤ length chunks.widths.now }
     ensures len { length workers.new ≡ length workers.old }
-    ensures each { TakesEachBy layout.now widths.now chunks.now workers.old workers.new }
+    ensures each { WorkBy layout.now chunks.widths.now chunks.texts.now workers.old workers.new }
     ensures ahead { A.has_read ahead.old ahead.new }
 {
     let Some((worker, workers)) = workers.split_first_mut() else {
         ahead.read();
         return;
     };
-    let (chunk, chunks) = (chunks[0], &chunks[1..]);
-    let (width, widths) = (widths[0], &widths[1..]);
     if workers.is_empty() {
-        work_and_read(rt, alloc, worker, chunk, layout, width, ahead);
+        work_and_read(rt, alloc, worker, chunks, next, layout, ahead);
         return;
     }
     // One thread starts all: of threads that start others, two may do so at once, and Linux then
     // puts both new ones on one processor.
     thread::join_mut(
         rt,
-        &mut || worker.work(alloc, chunk, layout, width),
+        &mut || worker.work(alloc, chunks, next, layout),
         &mut ||
             requires ahead { A.can_read ahead.now }
-            requires chunks { length workers.now ≡ length chunks.now }
-            requires widths { length chunks.now ≤ length widths.now }
+            requires widths { length chunks.texts.now ≤ length chunks.widths.now }
             ensures len { length workers.exit.now ≡ length workers.entry.now }
-            ensures each { TakesEachBy layout.entry.now widths.entry.now chunks.entry.now
+            ensures each { WorkBy layout.entry.now chunks.entry.widths.now chunks.entry.texts.now
                 workers.entry.now workers.exit.now }
             ensures ahead { A.has_read ahead.entry.now ahead.exit.now }
-        { work_parallel(rt, alloc, workers, chunks, widths, layout, ahead) },
+        { work_parallel(rt, alloc, workers, chunks, next, layout, ahead) },
     );
 }
