@@ -65,7 +65,8 @@ step-by taken keys workers w new segments more lens lt t have so fresh =
                   ap (λ ss. keys_of now (mine ++ ss)) (fresh.others v ne) ∙ ap (keys_of now) (append-nil mine) ∙ all-keys-stay workers now mine grown parts ∙ so.own v before
                   ∙ sym (ap (λ (it : Entries). it.keys) (get_or-set_other workers w v new (no_entries false) (λ is. ne (sym is))))
             ];
-      })
+      },
+    )
 
 -- one worker takes keys: its new entries become a segment
 pub step-segmented : (taken keys : List Key) (workers : List Entries) (w : ℕ) (new : Entries) (segments : List Segment) (lens : List ℕ)

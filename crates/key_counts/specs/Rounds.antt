@@ -1,4 +1,4 @@
--- Several workers that take the chunks of a file, each any of them.
+-- Several workers, each of which takes any of the chunks of a file.
 use Rattle.std.specs.Prelude.{◌≡◌, ◌<◌, ⊤, ℕ, All, List, [], ◌∷◌, length, sum_by}
 use Rattle.key_index.specs.Keys.{Key, distinct}
 use Rattle.key_counts.specs.Counts.{AreInterned, Entries, total_of}
