@@ -1,5 +1,5 @@
 -- Segments added one by one hold each entry once.
-use Rattle.std.proofs.Common.{◌≡◌, ◌∙◌, ◌+◌, ◌-◌, ◌*◌, ◌<◌, ℕ, zero, suc, List, [], ◌∷◌, ◌++◌, length, drop, get_or, sym, ap, ap₂, refl, arith, get_or-drop, get_or-take, false}
+use Rattle.std.proofs.Common.{◌≡◌, ◌∙◌, ◌+◌, ◌-◌, ◌*◌, ◌<◌, ◌≤◌, ℕ, zero, suc, List, [], ◌∷◌, ◌++◌, length, drop, get_or, set, sym, ap, ap₂, refl, arith, get_or-drop, get_or-take, false}
 use Rattle.std.specs.Prelude.{All, slice_range, sum_by}
 use Rattle.std.proofs.lemmas.List.{get_or-map, length-map}
 use Rattle.std.proofs.lemmas.List.Sums.{sum_by-cons}
@@ -12,7 +12,7 @@ use Rattle.key_counts.specs.declared.merging.Segment.{Segment}
 use Rattle.key_counts.proofs.Totals.{length-slice}
 
 -- ---- sums
-pub sum-same : (n : ℕ) (f g : ℕ → ℕ) → ((c : ℕ) → c < n → f c ≡ g c) → sum_below n f ≡ sum_below n g
+sum-same : (n : ℕ) (f g : ℕ → ℕ) → ((c : ℕ) → c < n → f c ≡ g c) → sum_below n f ≡ sum_below n g
 sum-same zero f g same = refl
 sum-same (suc n) f g same = ap₂ (λ a b. a + b) (sum-same n f g (λ c lt. same c (omega (arith, lt)))) (same n (omega arith))
 
@@ -20,11 +20,11 @@ sum-zero : (n : ℕ) (f : ℕ → ℕ) → ((c : ℕ) → f c ≡ 0) → sum_bel
 sum-zero zero f none = refl
 sum-zero (suc n) f none = let rest = sum-zero n f none in let last = none n in omega (arith, rest, last)
 
-pub sum-first : (n : ℕ) (f : ℕ → ℕ) → sum_below (suc n) f ≡ f 0 + sum_below n (λ c. f (suc c))
+sum-first : (n : ℕ) (f : ℕ → ℕ) → sum_below (suc n) f ≡ f 0 + sum_below n (λ c. f (suc c))
 sum-first zero f = omega arith
 sum-first (suc n) f = let rest = sum-first n f in omega (arith, rest)
 
-pub sum-split : (n m : ℕ) (f : ℕ → ℕ) → sum_below (n + m) f ≡ sum_below n f + sum_below m (λ c. f (n + c))
+sum-split : (n m : ℕ) (f : ℕ → ℕ) → sum_below (n + m) f ≡ sum_below n f + sum_below m (λ c. f (n + c))
 sum-split n zero f = let same : n + 0 ≡ n = omega arith in rw same (omega arith)
 sum-split n (suc m) f =
     let next : n + suc m ≡ suc (n + m) = omega arith in
@@ -40,6 +40,23 @@ all-none lens none = λ f.
     zero-at [] w none = refl
     zero-at (n ∷ lens) zero none = none 0 0 (omega arith)
     zero-at (n ∷ lens) (suc w) none = zero-at lens w (λ k d lt. none (suc k) d (omega (arith, lt)))
+
+-- one worker gets entries up to n
+pub sum-more : (f : ℕ → ℕ → ℕ) (lens : List ℕ) (w n : ℕ) → w < length lens → get_or lens w 0 ≤ n
+    → sum_below (length (set lens w n)) (λ v. sum_below (get_or (set lens w n) v 0) (f v))
+    ≡ sum_below (length lens) (λ v. sum_below (get_or lens v 0) (f v)) + sum_below (n - get_or lens w 0) (λ c. f w (get_or lens w 0 + c))
+sum-more f [] w n lt le = absurd (omega (arith, lt))
+sum-more f (m ∷ lens) zero n lt le =
+    let up : m + (n - m) ≡ n = omega (arith, le) in
+    let here : sum_below n (f 0) ≡ sum_below m (f 0) + sum_below (n - m) (λ c. f 0 (m + c)) = ap (λ k. sum_below k (f 0)) (sym up) ∙ sum-split m (n - m) (f 0) in
+    let a = sum-first (length lens) (λ v. sum_below (get_or (n ∷ lens) v 0) (f v)) in
+    let b = sum-first (length lens) (λ v. sum_below (get_or (m ∷ lens) v 0) (f v)) in
+    omega (arith, here, a, b)
+sum-more f (m ∷ lens) (suc w) n lt le =
+    let a = sum-first (length (set lens w n)) (λ v. sum_below (get_or (m ∷ set lens w n) v 0) (f v)) in
+    let b = sum-first (length lens) (λ v. sum_below (get_or (m ∷ lens) v 0) (f v)) in
+    let rest = sum-more (λ v. f (suc v)) lens w n (omega (arith, lt)) le in
+    omega (arith, a, b, rest)
 
 -- ---- what entries took, by code
 abbrev pub took : (Key → ℕ) → Entries → ℕ → ℕ
