@@ -1,5 +1,5 @@
 -- The records of workers, chunk by chunk.
-use Rattle.std.proofs.Common.{◌≡◌, ◌∙◌, ◌<◌, ℕ, zero, suc, Bool, true, false, List, [], ◌∷◌, ◌++◌, length, replicate, get_or, set, sym, ap, ap₂, refl, arith}
+use Rattle.std.proofs.Common.{◌≡◌, ◌∙◌, ◌<◌, ℕ, zero, suc, Bool, true, false, List, [], ◌∷◌, ◌++◌, length, replicate, get_or, set, sym, ap, ap₂, refl, subst, arith, append-nil}
 use Rattle.std.proofs.lemmas.List.{get_or-map, length-map, map-set}
 use Rattle.std.proofs.lemmas.List.Elements.{All-cons, All-nil, All-set}
 use Rattle.key_index.specs.Keys.{Key, key_at}
@@ -8,7 +8,7 @@ use Rattle.key_counts.specs.Partition.{lens_of}
 use Rattle.key_counts.specs.Recorded.{AreCoded, AreRecorded, all_records, as_records}
 use Rattle.key_counts.specs.Segments.{IsSegment, entries_of, keys_of}
 use Rattle.key_counts.specs.declared.merging.Segment.{Segment}
-use Rattle.key_counts.proofs.Growing.{GrowsAt, all-parts-stay, are-grown, keys-more, one-new, parts-more}
+use Rattle.key_counts.proofs.Growing.{AreNew, GrowsAt, keys-more, none-new, one-new, parts-more}
 
 -- ---- a step
 flags-after : (keys : List Key) (coded : Bool) (workers : List Entries) (w : ℕ) (new : Entries) → w < length workers → Takes (entries_of workers w) new keys → AreCoded coded workers
@@ -36,40 +36,43 @@ ends-after workers w new ends is =
     ap₂ (λ ns n. set ns w n) is (sym (length-map new.codes (key_at new.keys))) ∙ sym (map-set (λ (it : Entries). length it.keys) (all_records workers) w (as_records new))
     ∙ ap lens_of (sym (map-set as_records workers w new))
 
--- one worker takes keys: its new records become a chunk
+-- one worker takes keys: chunks of its new records are appended
+recorded-by : (taken keys : List Key) (coded : Bool) (workers : List Entries) (w : ℕ) (new : Entries) (chunks more : List Segment) (ends : List ℕ)
+    → w < length workers → Takes (entries_of workers w) new keys → AreRecorded taken coded workers chunks ends
+    → AreNew (set (all_records workers) w (as_records new)) w (recorded (entries_of workers w).coded keys) (get_or ends w 0) (length new.codes) more
+    → AreRecorded (taken ++ keys) coded (set workers w new) (chunks ++ more) (set ends w (length new.codes))
+recorded-by taken keys coded workers w new chunks more ends lt t so fresh =
+    let added = recorded (entries_of workers w).coded keys in
+    let same : all_records (set workers w new) ≡ set (all_records workers) w (as_records new) = map-set as_records workers w new in
+    let at = grows-at taken keys coded workers w new chunks ends lt t so in
+    record {
+      flags = flags-after keys coded workers w new lt t so.flags;
+      ends_are = ends-after workers w new ends so.ends_are;
+      parts = rw same (parts-more (all_records workers) w (as_records new) added (get_or ends w 0) (length new.codes) chunks more at fresh so.parts);
+      all = λ is.
+          let flag : (entries_of workers w).coded ≡ true = so.flags w (no_entries false) lt ∙ is in
+          ap (λ all. keys_of all (chunks ++ more)) same ∙ keys-more (all_records workers) w (as_records new) added (get_or ends w 0) (length new.codes) chunks more at fresh so.parts
+          ∙ ap₂ (λ ks b. ks ++ recorded b keys) (so.all is) flag;
+    }
+
+-- its new records become a chunk
 pub step-recorded : (taken keys : List Key) (coded : Bool) (workers : List Entries) (w : ℕ) (new : Entries) (chunks : List Segment) (ends : List ℕ)
     → w < length workers → Takes (entries_of workers w) new keys → AreRecorded taken coded workers chunks ends
     → AreRecorded (taken ++ keys) coded (set workers w new) (chunks ++ (record { worker = w; from = get_or ends w 0; to = length new.codes }) ∷ []) (set ends w (length new.codes))
 step-recorded taken keys coded workers w new chunks ends lt t so =
-    let s : Segment = record { worker = w; from = get_or ends w 0; to = length new.codes } in
-    let added = recorded (entries_of workers w).coded keys in
-    let same : all_records (set workers w new) ≡ set (all_records workers) w (as_records new) = map-set as_records workers w new in
     let at = grows-at taken keys coded workers w new chunks ends lt t so in
-    let fresh = one-new (all_records workers) w (as_records new) added (get_or ends w 0) (length new.codes) at in
-    record {
-      flags = flags-after keys coded workers w new lt t so.flags;
-      ends_are = ends-after workers w new ends so.ends_are;
-      parts = rw same (parts-more (all_records workers) w (as_records new) added (get_or ends w 0) (length new.codes) chunks (s ∷ []) at fresh so.parts);
-      all = λ is.
-          let flag : (entries_of workers w).coded ≡ true = so.flags w (no_entries false) lt ∙ is in
-          ap (λ all. keys_of all (chunks ++ s ∷ [])) same ∙ keys-more (all_records workers) w (as_records new) added (get_or ends w 0) (length new.codes) chunks (s ∷ []) at fresh so.parts
-          ∙ ap₂ (λ ks b. ks ++ recorded b keys) (so.all is) flag;
-    }
+    recorded-by taken keys coded workers w new chunks ((record { worker = w; from = get_or ends w 0; to = length new.codes }) ∷ []) ends lt t so
+    (one-new (all_records workers) w (as_records new) (recorded (entries_of workers w).coded keys) (get_or ends w 0) (length new.codes) at)
 
--- the same if no code is kept: there need be no chunk
-pub step-unrecorded : (taken keys : List Key) (coded : Bool) (workers : List Entries) (w : ℕ) (new : Entries) (chunks : List Segment) (ends : List ℕ)
-    → w < length workers → Takes (entries_of workers w) new keys → AreRecorded taken coded workers chunks ends → coded ≡ false
+-- if it has no new records, there need be no chunk
+pub step-recorded-same : (taken keys : List Key) (coded : Bool) (workers : List Entries) (w : ℕ) (new : Entries) (chunks : List Segment) (ends : List ℕ)
+    → w < length workers → Takes (entries_of workers w) new keys → AreRecorded taken coded workers chunks ends → get_or ends w 0 ≡ length new.codes
     → AreRecorded (taken ++ keys) coded (set workers w new) chunks (set ends w (length new.codes))
-step-unrecorded taken keys coded workers w new chunks ends lt t so off =
-    let added = recorded (entries_of workers w).coded keys in
+step-recorded-same taken keys coded workers w new chunks ends lt t so same =
     let at = grows-at taken keys coded workers w new chunks ends lt t so in
-    let grown = are-grown (all_records workers) w (as_records new) added (get_or ends w 0) (length new.codes) at in
-    record {
-      flags = flags-after keys coded workers w new lt t so.flags;
-      ends_are = ends-after workers w new ends so.ends_are;
-      parts = rw (map-set as_records workers w new) (all-parts-stay (all_records workers) (set (all_records workers) w (as_records new)) chunks grown so.parts);
-      all = λ is. absurd (cc (is, off));
-    }
+    subst (λ cs. AreRecorded (taken ++ keys) coded (set workers w new) cs (set ends w (length new.codes))) (append-nil chunks)
+    (recorded-by taken keys coded workers w new chunks [] ends lt t so
+    (none-new (all_records workers) w (as_records new) (recorded (entries_of workers w).coded keys) (get_or ends w 0) (length new.codes) at same))
 
 -- ---- the start
 pub start-recorded : (coded : Bool) (n : ℕ) → AreRecorded [] coded (replicate n (no_entries coded)) [] (replicate n 0)

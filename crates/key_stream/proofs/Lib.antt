@@ -1,6 +1,7 @@
 pub mod Chunked
 pub mod Filled
 pub mod Lengths
+pub mod Settled
 pub mod Splits
 pub mod Started
 pub mod TakenFirst

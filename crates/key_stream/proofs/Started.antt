@@ -1,22 +1,21 @@
 -- Nothing is counted yet.
-use Rattle.std.proofs.Common.{◌≡◌, ℕ, [], Bool, None, replicate}
+use Rattle.std.proofs.Common.{◌≡◌, ℕ, List, [], Bool, None, replicate}
 use Rattle.csv_ingest.specs.KeyFile.{Taking}
 use Rattle.csv_ingest.proofs.Rounds.{nothing_read}
-use Rattle.key_counts.specs.Counts.{no_entries}
+use Rattle.key_counts.specs.Counts.{Entries, no_entries}
+use Rattle.key_counts.specs.declared.merging.Segment.{Segment}
 use Rattle.key_counts.proofs.Recorded.{start-recorded}
 use Rattle.key_counts.proofs.Segmented.{start-segmented, start-taken}
-use Rattle.key_stream.specs.Counting.{IsCounted}
-use Rattle.key_stream.specs.Rounds.{entries_in}
-use Rattle.key_stream.specs.declared.counting.Counting.{Counting}
+use Rattle.key_stream.specs.Counting.{IsCountedBy}
+use Rattle.key_stream.specs.declared.round.Round.{Round}
 
-pub starts : (delimiter : ℕ) (wanted : Taking) (header coded : Bool) (n : ℕ) (counting : Counting) → entries_in counting.workers.items ≡ replicate n (no_entries coded)
-    → counting.segments.items ≡ [] → counting.marks.items ≡ replicate n 0 → counting.chunks.items ≡ [] → counting.ends.items ≡ replicate n 0
-    → counting.coded ≡ coded → counting.round.width ≡ None → counting.round.keys ≡ 0
-    → IsCounted delimiter wanted header [] counting
-starts delimiter wanted header coded n counting workers segments marks chunks ends flag width keys = record {
+pub starts : (delimiter : ℕ) (wanted : Taking) (header coded : Bool) (n : ℕ) (round : Round) (workers : List Entries) (segments : List Segment) (marks : List ℕ) (flag : Bool) (chunks : List Segment) (ends : List ℕ)
+    → workers ≡ replicate n (no_entries coded) → segments ≡ [] → marks ≡ replicate n 0 → chunks ≡ [] → ends ≡ replicate n 0 → flag ≡ coded → round.width ≡ None → round.keys ≡ 0
+    → IsCountedBy delimiter wanted header [] round workers segments marks flag chunks ends
+starts delimiter wanted header coded n round workers segments marks flag chunks ends is none zeros empty nothing same width keys = record {
   keys = [];
   so = record { records = 0; so = rw width (nothing_read delimiter wanted header); counted = keys };
-  taken = rw (workers, segments) (start-taken coded n);
-  parts = rw (workers, segments, marks) (start-segmented coded n);
-  recorded = rw (workers, chunks, ends, flag) (start-recorded coded n);
+  taken = rw (is, none) (start-taken coded n);
+  parts = rw (is, none, zeros) (start-segmented coded n);
+  recorded = rw (is, empty, nothing, same) (start-recorded coded n);
 }

@@ -1,6 +1,6 @@
 -- The first pieces of a text are taken.
 use Rattle.std.proofs.Common.{◌≡◌, ◌∙◌, ◌<◌, ◌≤◌, ℕ, zero, suc, List, [], ◌++◌, Bool, true, false, Bor, length, take, drop, sym, ap, refl, subst, arith, inl, inr, length-append, take-append-drop, append-nil}
-use Rattle.std.specs.Prelude.{◌⊎◌, ◌-◌, min, not}
+use Rattle.std.specs.Prelude.{◌⊎◌, ◌-◌, not}
 use mir.Val.{bool_byte}
 use Rattle.std.specs.List.{take-map}
 use Rattle.std.proofs.lemmas.List.{drop_at, length-map, take_at}
@@ -12,11 +12,7 @@ use Rattle.csv_ingest.specs.Private.Pieces.{bytes_of, lent}
 use Rattle.csv_ingest.specs.Rounds.{IsSplitPoint}
 use Rattle.csv_ingest.proofs.Parts.{pieces-bytes}
 use Rattle.csv_ingest.proofs.Rounds.{split-front, split-pieces}
-use Rattle.key_counts.specs.Rounds.{concatenated}
-use Rattle.key_counts.proofs.Recorded.{round-recorded}
-use Rattle.key_counts.proofs.Segmented.{round-segmented}
-use Rattle.key_stream.specs.Counting.{HasFaultIn, IsCounted, TakesFirst, TakesPieces}
-use Rattle.key_stream.specs.Rounds.{HasFault, IsRead, entries_in}
+use Rattle.key_stream.specs.Counting.{HasFault, HasFaultIn, IsCounted, TakesFirst, TakesPieces}
 use Rattle.key_stream.specs.declared.counting.Counting.{Counting}
 
 halves : (delimiter : ℕ) (pieces : List (List ℕ)) (text : List ℕ) (count : ℕ) → ArePieces delimiter text pieces → bytes_of (take count pieces) ++ bytes_of (drop count pieces) ≡ text
@@ -45,23 +41,11 @@ pub takes-first : (delimiter : ℕ) (wanted : Taking) (header at_end : Bool) (te
     → n ≡ length (bytes_of (take count pieces)) → (at_end ≡ false → count < length pieces) → TakesPieces delimiter wanted header pieces count old new
     → TakesFirst delimiter wanted header at_end text n old new
 takes-first delimiter wanted header at_end text pieces count n old new parts is some t = λ read more at end so.
-    let olds = entries_in old.workers.items in
-    let news = entries_in new.workers.items in
-    let lists = t.0.lists in
     let front = front-is delimiter pieces text count n parts is in
     let back = back-is delimiter pieces text count n parts is in
-    let segmented = round-segmented so.keys olds news lists old.segments.items old.marks.items so.taken so.parts t.0.took in
-    let read_now : IsRead delimiter wanted header (read ++ take n text) new.round (so.keys ++ concatenated lists) =
-    rw front (t.0.follows read text so.keys parts (split-front delimiter read text more at) so.so) in
+    let counted : IsCounted delimiter wanted header (read ++ take n text) new = rw front (t read text parts (split-front delimiter read text more at) so) in
     let split : IsSplitPoint delimiter (read ++ take n text) (drop n text ++ more) =
     rw front (rw back (split-pieces delimiter pieces read text more count parts (goes-on at_end pieces more count some end) at)) in
-    let counted : IsCounted delimiter wanted header (read ++ take n text) new = record {
-      keys = so.keys ++ concatenated lists;
-      so = read_now;
-      taken = rw t.2 segmented.0;
-      parts = rw t.2 (rw t.1 segmented.1);
-      recorded = rw t.5 (rw t.4 (rw t.3 (round-recorded so.keys old.coded olds news lists old.chunks.items old.ends.items so.recorded t.0.took)));
-    } in
     (counted, split)
 
 -- nothing is taken, and nothing changes
@@ -70,23 +54,22 @@ takes-none delimiter wanted header at_end text counting = λ read more at end so
     (subst (λ xs. IsCounted delimiter wanted header xs counting) (sym (append-nil read)) so, subst (λ xs. IsSplitPoint delimiter xs (text ++ more)) (sym (append-nil read)) at)
 
 pub fault-in : (delimiter : ℕ) (wanted : Taking) (header at_end : Bool) (text : List ℕ) (pieces : List (List ℕ)) (count : ℕ) (old : Counting) (e : Refusal) → ArePieces delimiter text pieces
-    → (at_end ≡ false → count < length pieces) → HasFault delimiter wanted header old.round pieces count e → HasFaultIn delimiter wanted header at_end text old e
+    → (at_end ≡ false → count < length pieces) → HasFault delimiter wanted header pieces count old e → HasFaultIn delimiter wanted header at_end text old e
 fault-in delimiter wanted header at_end text pieces count old e parts some f = λ read more at end so.
-    f read text more so.keys parts at (goes-on at_end pieces more count some end) so.so
+    f read text more parts at (goes-on at_end pieces more count some end) so
 
 pub lent-front : (pieces slice : List (Bor (List ℕ))) (count : ℕ) → slice ≡ pieces → bytes_of (lent (take count slice)) ≡ bytes_of (take count (lent pieces))
 lent-front pieces slice count same =
     ap (λ ps. bytes_of (lent (take count ps))) same ∙ ap bytes_of (sym (take-map (λ (p : Bor (List ℕ)). p.now) count pieces))
 
 -- there is a piece more than is taken, where the text is not at its end
-pub one-left : (at_end : Bool) (pieces : List (Bor (List ℕ))) (workers many behind ready count : ℕ) → many ≡ length pieces → behind ≡ bool_byte (not at_end)
-    → ready ≡ many - behind → count ≡ min workers ready → (count ≡ 0 → ⊥) → at_end ≡ false → count < length (lent pieces)
-one-left at_end pieces workers many behind ready count len b r m some goes =
+pub one-left : (at_end : Bool) (pieces : List (Bor (List ℕ))) (many behind count : ℕ) → many ≡ length pieces → behind ≡ bool_byte (not at_end)
+    → count ≡ many - behind → (count ≡ 0 → ⊥) → at_end ≡ false → count < length (lent pieces)
+one-left at_end pieces many behind count len b is some goes =
     let one : behind ≡ 1 = b ∙ ap (λ e. bool_byte (not e)) goes in
     let all : length (lent pieces) ≡ length pieces = length-map pieces (λ (p : Bor (List ℕ)). p.now) in
-    let few : count ≤ ready = omega (arith, m) in
     let not_none : 1 ≤ count = one-or-more count some in
-    omega (arith, few, r, one, len, all, not_none)
+    omega (arith, is, one, len, all, not_none)
   where
     one-or-more : (n : ℕ) → (n ≡ 0 → ⊥) → 1 ≤ n
     one-or-more zero none = absurd (none refl)

@@ -46,12 +46,6 @@ HasMarks counting =
     (vec_len counting.marks ≡ vec_len counting.workers)
     × (vec_len counting.ends ≡ vec_len counting.workers)
 
--- the same was counted but for the workers
-abbrev pub IsCountedAs : Counting → Counting → Type 0
-IsCountedAs old new =
-    (new.round ≡ old.round) × (new.segments ≡ old.segments) × (new.marks ≡ old.marks)
-    × (new.coded ≡ old.coded) × (new.chunks ≡ old.chunks) × (new.ends ≡ old.ends)
-
 -- the first n bytes of a text were taken: whatever was read before it, up to a split point, and
 -- whatever comes behind it, if it is not the end
 abbrev pub TakesFirst : ℕ → Taking → Bool → Bool → List ℕ → ℕ → Counting → Counting → Type 0

@@ -12,6 +12,7 @@ use Rattle.key_stream.specs.Splits.{HasSplitFault, TakesSplit}
 use Rattle.key_stream.specs.Turns.{HasWorked, HaveWorked}
 use Rattle.key_stream.specs.declared.counting.Counting.{Counting}
 use Rattle.key_stream.specs.declared.counting.Split.{Split}
+use Rattle.key_stream.specs.declared.worker.Chunks.{Chunks}
 use Rattle.key_stream.specs.declared.worker.Layout.{Layout}
 use Rattle.key_stream.specs.declared.worker.Worker.{Worker}
 
@@ -23,38 +24,43 @@ HasWidths delimiter width chunks widths =
     → slice_index_or widths i None ≡ width_after_all delimiter width (take i (lent chunks))
 
 -- a worker took more chunks, whatever entries its first turn had
-abbrev pub WorksBy : Layout → List (Option ℕ) → List (Bor (List ℕ)) → Worker → Worker → Type 0
-WorksBy layout widths chunks old new =
+unfoldable pub WorksBy : Layout → Chunks → Worker → Worker → Type 0
+WorksBy layout chunks old new =
     (start : Entries)
-    → HasWorked layout.delimiter (taking layout.wanted.now) layout.header widths (lent chunks)
+    → HasWorked layout.delimiter (taking layout.wanted.now) layout.header chunks.widths.now
+    (lent chunks.texts.now)
     start old
-    → HasWorked layout.delimiter (taking layout.wanted.now) layout.header widths (lent chunks)
+    → HasWorked layout.delimiter (taking layout.wanted.now) layout.header chunks.widths.now
+    (lent chunks.texts.now)
     start new
 
 -- each of these workers did
-abbrev pub WorkBy : Layout → List (Option ℕ) → List (Bor (List ℕ)) → List Worker → List Worker
+unfoldable pub WorkBy : Layout → Chunks → List Worker → List Worker
     → Type 0
-WorkBy layout widths chunks olds news =
+WorkBy layout chunks olds news =
     (i : ℕ) (d : Worker) → i < length olds
-    → WorksBy layout widths chunks (slice_index_or olds i d) (slice_index_or news i d)
+    → WorksBy layout chunks (slice_index_or olds i d) (slice_index_or news i d)
 
 -- from these entries on each of these workers took chunks in its turns
-abbrev pub HaveWorkedBy : Layout → List (Option ℕ) → List (Bor (List ℕ)) → List Entries
+abbrev pub HaveWorkedBy : Layout → Chunks → List Entries
     → List Worker → Type 0
-HaveWorkedBy layout widths chunks starts workers =
-    HaveWorked layout.delimiter (taking layout.wanted.now) layout.header widths (lent chunks)
+HaveWorkedBy layout chunks starts workers =
+    HaveWorked layout.delimiter (taking layout.wanted.now) layout.header chunks.widths.now
+    (lent chunks.texts.now)
     starts workers
 
 -- the turns in which workers took chunks are settled
-abbrev pub SettlesBy : Layout → List (Option ℕ) → List (Bor (List ℕ)) → Counting → Counting
+abbrev pub SettlesBy : Layout → Chunks → Counting → Counting
     → Type 0
-SettlesBy layout widths chunks old new =
-    Settles layout.delimiter (taking layout.wanted.now) layout.header widths (lent chunks) old new
+SettlesBy layout chunks old new =
+    Settles layout.delimiter (taking layout.wanted.now) layout.header chunks.widths.now
+    (lent chunks.texts.now) old new
 
 -- one of them found this fault
-abbrev pub FailsBy : Layout → List (Option ℕ) → List (Bor (List ℕ)) → Counting → Refusal → Type 0
-FailsBy layout widths chunks old fault =
-    Fails layout.delimiter (taking layout.wanted.now) layout.header widths (lent chunks) old fault
+abbrev pub FailsBy : Layout → Chunks → Counting → Refusal → Type 0
+FailsBy layout chunks old fault =
+    Fails layout.delimiter (taking layout.wanted.now) layout.header chunks.widths.now
+    (lent chunks.texts.now) old fault
 
 -- the first `count` of these pieces were taken
 abbrev pub TakesPiecesBy : Layout → List (List ℕ) → ℕ → Counting → Counting → Type 0

@@ -29,17 +29,17 @@ with_segment segments worker from to =
 -- the turn of this worker is settled: its keys are counted, and its new entries and records stand
 -- behind those of the chunks before; then the first record is so long, if it was read
 pub record SettlesTurn (worker : ℕ) (turn : Turn) (width : Option ℕ) (old new : Counting) : Type 0
-    where
-  pub number : ℕ
-  pub found : turn.found ≡ Ok number
-  pub keys : new.round.keys ≡ old.round.keys + number
-  pub width_is : new.round.width ≡ width
-  pub segments : new.segments.items ≡ with_segment old.segments.items worker
-      (slice_index_or old.marks.items worker 0) turn.entries
-  pub marks : new.marks.items ≡ slice_set old.marks.items worker turn.entries
-  pub chunks : new.chunks.items ≡ with_segment old.chunks.items worker
-      (slice_index_or old.ends.items worker 0) turn.records
-  pub ends : new.ends.items ≡ slice_set old.ends.items worker turn.records
+  where
+    pub number : ℕ
+    pub found : turn.found ≡ Ok number
+    pub keys : new.round.keys ≡ old.round.keys + number
+    pub width_is : new.round.width ≡ width
+    pub segments : new.segments.items ≡ with_segment old.segments.items worker
+        (slice_index_or old.marks.items worker 0) turn.entries
+    pub marks : new.marks.items ≡ slice_set old.marks.items worker turn.entries
+    pub chunks : new.chunks.items ≡ with_segment old.chunks.items worker
+        (slice_index_or old.ends.items worker 0) turn.records
+    pub ends : new.ends.items ≡ slice_set old.ends.items worker turn.records
 
 -- the turn found this fault, before whose chunk the first record was so long, if it was read
 pub record HasTurnFault (turn : Turn) (width : Option ℕ) (header : Bool) (old : Counting)
@@ -50,14 +50,14 @@ pub record HasTurnFault (turn : Turn) (width : Option ℕ) (header : Bool) (old 
 
 -- the next turn of worker w, behind those of its turns that are settled, has this chunk
 pub record IsNextTurn (workers : List Worker) (settled : List ℕ) (index w : ℕ) (turn : Turn) : Type 0
-    where
-  pub worker : w < length workers
-  pub place : w < length settled
-  pub within : (d : Worker) → slice_index_or settled w 0
-      < length (slice_index_or workers w d).turns.items
-  pub at : (d : Worker) (t : Turn)
-      → slice_index_or (slice_index_or workers w d).turns.items (slice_index_or settled w 0) t ≡ turn
-  pub chunk : turn.chunk ≡ index
+  where
+    pub worker : w < length workers
+    pub place : w < length settled
+    pub within : (d : Worker) → slice_index_or settled w 0
+        < length (slice_index_or workers w d).turns.items
+    pub at : (d : Worker) (t : Turn)
+        → slice_index_or (slice_index_or workers w d).turns.items (slice_index_or settled w 0) t ≡ turn
+    pub chunk : turn.chunk ≡ index
 
 -- so many turns of each worker are all that it has
 abbrev pub AreSettled : List Worker → List ℕ → Type 0
@@ -75,7 +75,7 @@ pub record AreChunksOf (delimiter : ℕ) (width : Option ℕ) (widths : List (Op
 
 -- the turns in which workers took these chunks, from whatever entries on, are settled: if they are
 -- the first pieces of a text, these are counted
-abbrev pub Settles : ℕ → Taking → Bool → List (Option ℕ) → List (List ℕ) → Counting → Counting
+unfoldable pub Settles : ℕ → Taking → Bool → List (Option ℕ) → List (List ℕ) → Counting → Counting
     → Type 0
 Settles delimiter wanted header widths chunks old new =
     (starts : List Entries) (pieces : List (List ℕ)) (read text : List ℕ)
@@ -87,7 +87,7 @@ Settles delimiter wanted header widths chunks old new =
     → IsCounted delimiter wanted header (read ++ bytes_of (take (length chunks) pieces)) new
 
 -- one of the turns found a fault: memory was refused, or it is the fault of the file
-abbrev pub Fails : ℕ → Taking → Bool → List (Option ℕ) → List (List ℕ) → Counting → Refusal → Type 0
+unfoldable pub Fails : ℕ → Taking → Bool → List (Option ℕ) → List (List ℕ) → Counting → Refusal → Type 0
 Fails delimiter wanted header widths chunks old fault =
     (starts : List Entries) → length starts ≡ length old.workers.items
     → HaveWorked delimiter wanted header widths chunks starts old.workers.items

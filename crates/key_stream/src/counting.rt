@@ -7,8 +7,8 @@ ghost use Rattle.csv_ingest.specs.Stand.{is_line_end};
 ghost use Rattle.csv_ingest.specs.Private.Pieces.{bytes_of, lent};
 ghost use Rattle.csv_ingest.specs.Private.Wanted.{taking};
 ghost use Rattle.key_counts.specs.Counts.{no_entries};
-ghost use Rattle.key_stream.specs.Counting.{HasMarks, IsCounted, IsCountedAs};
-ghost use Rattle.key_stream.specs.Layouts.{HasFaultInSplit, HaveWorkedBy, TakesSplitBy};
+ghost use Rattle.key_stream.specs.Counting.{HasMarks, IsCounted};
+ghost use Rattle.key_stream.specs.Layouts.{HasFaultInSplit, HaveWorkedBy, TakesSplitBy, WorkBy};
 ghost use Rattle.key_stream.specs.Rounds.{entries_in};
 ghost use Rattle.key_stream.specs.Splits.{IsSplitOf};
 ghost use Rattle.key_stream.specs.declared.worker.Worker.{Worker};
@@ -165,6 +165,49 @@ fn forget_turns(workers: &mut [Worker])
     }
 }
 
+/// The first so many workers take chunks, and the calling thread reads ahead.
+fn work_first<R: Threads + Sync, A: ReadAhead>(
+    rt: &R,
+    alloc: Global,
+    workers: &mut [Worker],
+    threads: usize,
+    chunks: Chunks<'_>,
+    layout: &Layout<'_>,
+    ahead: &mut A,
+)
+    requires ahead { A.can_read ahead.old }
+    requires threads { threads ≤ length workers.old }
+    requires widths { length chunks.texts.now ≤ length chunks.widths.now }
+    ensures len { length workers.new ≡ length workers.old }
+    ensures each { WorkBy layout.now chunks.entry workers.old workers.new }
+    ensures ahead { A.has_read ahead.old ahead.new }
+{
+    let next = AtomicUsize::new(0);
+    let first = &mut workers[..threads];
+    work_parallel(rt, alloc, first, chunks, &next, layout, ahead);
+}
+
+/// Workers take chunks in so many threads, and the calling one reads ahead.
+fn work_all<R: Threads + Sync, A: ReadAhead>(
+    rt: &R,
+    alloc: Global,
+    workers: &mut [Worker],
+    threads: usize,
+    chunks: Chunks<'_>,
+    layout: &Layout<'_>,
+    ahead: &mut A,
+)
+    requires ahead { A.can_read ahead.old }
+    requires widths { length chunks.texts.now ≤ length chunks.widths.now }
+    ensures len { length workers.new ≡ length workers.old }
+    ensures worked { HaveWorkedBy layout.now chunks.entry (entries_in workers.old) workers.new }
+    ensures ahead { A.has_read ahead.old ahead.new }
+{
+    forget_turns(workers);
+    let threads = threads.min(workers.len());
+    work_first(rt, alloc, workers, threads, chunks, layout, ahead);
+}
+
 impl Counting {
     /// Nothing yet, by this many workers, whose keys are hashed by this hasher. So many bytes as
     /// `least` are worth a thread. If `coded`, the code of each record's entry is kept.
@@ -195,31 +238,6 @@ impl Counting {
             },
             least,
         })
-    }
-
-    /// So many workers at most take the chunks, and the calling thread reads ahead.
-    fn work<R: Threads + Sync, A: ReadAhead>(
-        &mut self,
-        rt: &R,
-        alloc: Global,
-        chunks: Chunks<'_>,
-        threads: usize,
-        layout: &Layout<'_>,
-        ahead: &mut A,
-    )
-        requires ahead { A.can_read ahead.old }
-        requires widths { length chunks.texts.now ≤ length chunks.widths.now }
-        ensures same { IsCountedAs self.old self.new }
-        ensures len { vec_len self.new.workers ≡ vec_len self.old.workers }
-        ensures worked { HaveWorkedBy layout.now chunks.widths.now chunks.texts.now
-            (entries_in self.old.workers.items) self.new.workers.items }
-        ensures ahead { A.has_read ahead.old ahead.new }
-    {
-        forget_turns(self.workers.as_mut_slice());
-        let threads = threads.min(self.workers.len());
-        let next = AtomicUsize::new(0);
-        let workers = &mut self.workers.as_mut_slice()[..threads];
-        work_parallel(rt, alloc, workers, chunks, &next, layout, ahead);
     }
 
     /// Splits a text into the chunks of a round; a short text is one chunk. `at_end` says that nothing comes behind it. Otherwise what is behind the last line
@@ -283,7 +301,8 @@ impl Counting {
             texts,
             widths: widths.as_slice(),
         };
-        self.work(rt, alloc, chunks, split.threads, layout, ahead);
+        let workers = self.workers.as_mut_slice();
+        work_all(rt, alloc, workers, split.threads, chunks, layout, ahead);
         self.settle(alloc, chunks, layout)
     }
 }

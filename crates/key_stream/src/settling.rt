@@ -67,6 +67,7 @@ fn add_segment(
     ensures segments { OnOk result (segments.new.items
         ≡ with_segment segments.old.items worker (slice_index_or marks.old.items worker 0) to) }
     ensures marks { marks.new.items ≡ slice_set marks.old.items worker to }
+    ensures len { vec_len marks.new ≡ vec_len marks.old }
 {
     let from = marks[worker];
     marks[worker] = to;
@@ -119,6 +120,8 @@ impl Counting {
         requires ends { worker < vec_len self.old.ends }
         ensures workers { self.new.workers ≡ self.old.workers }
         ensures coded { self.new.coded ≡ self.old.coded }
+        ensures marks { vec_len self.new.marks ≡ vec_len self.old.marks }
+        ensures ends { vec_len self.new.ends ≡ vec_len self.old.ends }
         ensures ok { OnOk result (SettlesTurn worker turn behind self.old self.new) }
         ensures err { IfErr result (λ e. (e ≡ refusal.Memory)
             ⊎ HasTurnFault turn before header self.old e) }
@@ -153,19 +156,27 @@ impl Counting {
         ensures coded { self.new.coded ≡ self.old.coded }
         ensures marks { OnOk result (HasMarks self.new) }
         ensures ok { OnOk result
-            (SettlesBy layout.now chunks.widths.now chunks.texts.now self.old self.new) }
+            (SettlesBy layout.now chunks.entry self.old self.new) }
         ensures err { IfErr result
-            (FailsBy layout.now chunks.widths.now chunks.texts.now self.old) }
+            (FailsBy layout.now chunks.entry self.old) }
     {
-        let mut settled = vec![in alloc; 0usize; self.workers.len()]?;
+        let Ok(mut settled) = vec![in alloc; 0usize; self.workers.len()] else {
+            return Err(Refusal::Memory);
+        };
         for chunk in 0..chunks.texts.len() {
             let next = next_turn(self.workers.as_slice(), settled.as_slice(), chunk);
             let Some((worker, turn)) = next else {
                 return Err(Refusal::Memory);
             };
-            let (before, behind) = (chunks.widths[chunk], chunks.widths[chunk + 1]);
-            self.settle_turn(worker, turn, before, behind, layout.header)?;
-            settled[worker] += 1;
+            let (before, behind) = (chunks.width(chunk), chunks.width(chunk + 1));
+            match self.settle_turn(worker, turn, before, behind, layout.header) {
+                Ok(()) => {}
+                Err(fault) => return Err(fault),
+            }
+            let Some(turns) = settled[worker].checked_add(1) else {
+                return Err(Refusal::Memory);
+            };
+            settled[worker] = turns;
         }
         if !are_settled(self.workers.as_slice(), settled.as_slice()) {
             return Err(Refusal::Memory);

@@ -1,6 +1,7 @@
 //! What one thread does.
 
-ghost use Rattle.std.specs.Prelude.{◌≡◌, ◌≤◌, ◌<◌, length};
+ghost use Rattle.std.specs.Prelude.{◌≡◌, ◌≤◌, ◌<◌, [], None, length, slice_index_or};
+ghost use Rattle.csv_ingest.specs.Private.Pieces.{lent};
 ghost use Rattle.csv_ingest.specs.Private.Wanted.{taking};
 ghost use Rattle.key_stream.specs.Chunks.{TakesChunk};
 ghost use Rattle.key_stream.specs.Layouts.{WorkBy, WorksBy};
@@ -45,6 +46,24 @@ pub struct Chunks<'a> {
     pub texts: &'a [&'a [u8]],
     /// How long the first record of the file is, if it was read: before each chunk.
     pub widths: &'a [Option<usize>],
+}
+
+impl<'a> Chunks<'a> {
+    /// The chunk of this index.
+    fn text(&self, chunk: usize) -> &'a [u8]
+        requires { chunk < length self.now.texts.now }
+        ensures { result.now ≡ slice_index_or (lent self.now.texts.now) chunk [] }
+    {
+        self.texts[chunk]
+    }
+
+    /// How long the first record of the file is before the chunk of this index, if it was read.
+    pub fn width(&self, chunk: usize) -> Option<usize>
+        requires { chunk < length self.now.widths.now }
+        ensures { result ≡ slice_index_or self.now.widths.now chunk None }
+    {
+        self.widths[chunk]
+    }
 }
 
 /// How the chunks of a file are read.
@@ -97,7 +116,7 @@ impl Worker {
     ) -> Result<bool, Memory>
         requires texts { chunk < length chunks.texts.now }
         requires widths { chunk < length chunks.widths.now }
-        ensures { WorksBy layout.now chunks.widths.now chunks.texts.now self.old self.new }
+        ensures { WorksBy layout.now chunks.entry self.old self.new }
     {
         let at = self.turns.len();
         // If there is no memory for the turn, the chunk is not taken.
@@ -107,7 +126,7 @@ impl Worker {
             entries: 0,
             records: 0,
         })?;
-        let (text, width) = (chunks.texts[chunk], chunks.widths[chunk]);
+        let (text, width) = (chunks.text(chunk), chunks.width(chunk));
         let found = count_chunk(&mut self.counter, alloc, text, layout, width);
         self.turns[at] = Turn {
             chunk,
@@ -121,14 +140,17 @@ impl Worker {
     /// Takes chunks until there are no more, or one has a fault.
     fn work(&mut self, alloc: Global, chunks: Chunks<'_>, next: &AtomicUsize, layout: &Layout<'_>)
         requires { length chunks.texts.now ≤ length chunks.widths.now }
-        ensures { WorksBy layout.now chunks.widths.now chunks.texts.now self.old self.new }
+        ensures { WorksBy layout.now chunks.entry self.old self.new }
     {
         for _ in 0..chunks.texts.len() {
             let chunk = next.fetch_add(1, Ordering::SeqCst);
             if chunk >= chunks.texts.len() {
                 return;
             }
-            if !self.take_turn(alloc, chunks, chunk, layout).unwrap_or(false) {
+            if !self
+                .take_turn(alloc, chunks, chunk, layout)
+                .unwrap_or(false)
+            {
                 return;
             }
         }
@@ -148,7 +170,7 @@ fn work_and_read<R: Threads + Sync, A: ReadAhead>(
 )
     requires ahead { A.can_read ahead.old }
     requires widths { length chunks.texts.now ≤ length chunks.widths.now }
-    ensures worker { WorksBy layout.now chunks.widths.now chunks.texts.now worker.old worker.new }
+    ensures worker { WorksBy layout.now chunks.entry worker.old worker.new }
     ensures ahead { A.has_read ahead.old ahead.new }
 {
     if ahead.may_wait() {
@@ -179,7 +201,7 @@ pub fn work_parallel<R: Threads + Sync, A: ReadAhead>(
     requires ahead { A.can_read ahead.old }
     requires widths { length chunks.texts.now ≤ length chunks.widths.now }
     ensures len { length workers.new ≡ length workers.old }
-    ensures each { WorkBy layout.now chunks.widths.now chunks.texts.now workers.old workers.new }
+    ensures each { WorkBy layout.now chunks.entry workers.old workers.new }
     ensures ahead { A.has_read ahead.old ahead.new }
 {
     let Some((worker, workers)) = workers.split_first_mut() else {
@@ -199,8 +221,8 @@ pub fn work_parallel<R: Threads + Sync, A: ReadAhead>(
             requires ahead { A.can_read ahead.now }
             requires widths { length chunks.texts.now ≤ length chunks.widths.now }
             ensures len { length workers.exit.now ≡ length workers.entry.now }
-            ensures each { WorkBy layout.entry.now chunks.entry.widths.now chunks.entry.texts.now
-                workers.entry.now workers.exit.now }
+            ensures each { WorkBy layout.entry.now chunks.entry workers.entry.now
+                workers.exit.now }
             ensures ahead { A.has_read ahead.entry.now ahead.exit.now }
         { work_parallel(rt, alloc, workers, chunks, next, layout, ahead) },
     );

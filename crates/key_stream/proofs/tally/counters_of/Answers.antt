@@ -2,7 +2,7 @@ use Rattle.std.proofs.Common.{◌≡◌, ◌+◌, ◌∙◌, ◌∷◌, ◌++◌
 use Rattle.std.specs.Vec.Iter.{into_iter_items}
 use Rattle.std.proofs.lemmas.List.{map-append, take_all, take_more}
 use Rattle.parallel.proofs.Iterated.{drop_last, drop_next}
-use Rattle.key_stream.proofs.Taken.{counts_of}
+use Rattle.key_stream.proofs.Turns.{counts_of}
 use Rattle.key_stream.specs.Rounds.{entries_in}
 use Rattle.key_stream.proofs.tally.counters_of.Goals as goal
 
