@@ -7,7 +7,7 @@ use Rattle.key_counts.specs.Private.Twins.{may_have_twin}
 use Rattle.key_counts.specs.Segments.{counts_of, is_key, keys_behind, keys_of, totals_of}
 use Rattle.key_counts.proofs.Parts.{counts-len}
 use Rattle.key_counts.proofs.Walks.{kept-le, kept-length}
-use Rattle.key_counts.proofs.merging.merge.Goals as goal
+use Rattle.key_counts.proofs.merging.Prepared.new.Goals as goal
 
 pub totals-requires-clause-bound : goal.totals-requires-clause-bound
 totals-requires-clause-bound g c κs within =
@@ -21,8 +21,7 @@ totals-requires-clause-bound g c κs within =
       length-filter p all,
       count_by-le-length p all,
       length-map (keys_of c.args.workers.now c.args.segments.now) (drop c.args.skip),
-      c.in_ok-entries.ensures.value,
-      c.in_ok-entries.ensures.bound,
+      c.requires.bound,
     )
 
 pub totals-requires-clause-len : goal.totals-requires-clause-len
@@ -43,14 +42,19 @@ totals-requires-clause-sums g c κs within = λ x.
     let same = ap₂ (total (is_key x)) c.in_ok-shared.ensures.keys c.in_ok-shared.ensures.counts in
     omega (arith, same, kept-le p (is_key x) all counts len, c.requires.sums x)
 
-pub walked-requires-clause-shared : goal.walked-requires-clause-shared
-walked-requires-clause-shared g c =
-    let all = keys_behind c.args.skip c.args.workers.now c.args.segments.now in
-    let counts = counts_of c.args.workers.now c.args.segments.now in
+pub returns-clause-prepared : goal.returns-clause-prepared
+returns-clause-prepared g c =
+    let workers = c.args.workers.now in
+    let segments = c.args.segments.now in
     let keys = c.in_ok-shared.ensures.keys in
     record {
-      once = c.in_ok-twins.ensures.once;
-      len = counts-len c.args.workers.now c.args.segments.now c.are_counted.ensures c.requires.segments ∙ sym (length-map (keys_of c.args.workers.now c.args.segments.now) (drop c.args.skip));
-      ids = c.in_ok-totals.ensures.ids ∙ ap (λ ks. map (id_of (distinct ks)) ks) keys;
-      totals = c.in_ok-totals.ensures.totals ∙ ap₂ (λ ks ns. totals_of (distinct ks) ks ns) keys c.in_ok-shared.ensures.counts;
+      counted = c.are_counted.ensures;
+      segments = c.requires.segments;
+      flags = c.in_ok-twins.ensures.flags;
+      totals = record {
+        once = c.in_ok-twins.ensures.once;
+        len = counts-len workers segments c.are_counted.ensures c.requires.segments ∙ sym (length-map (keys_of workers segments) (drop c.args.skip));
+        ids = c.in_ok-totals.ensures.ids ∙ ap (λ ks. map (id_of (distinct ks)) ks) keys;
+        totals = c.in_ok-totals.ensures.totals ∙ ap₂ (λ ks ns. totals_of (distinct ks) ks ns) keys c.in_ok-shared.ensures.counts;
+      };
     }
