@@ -66,6 +66,19 @@ counts-between m start end counts joined =
     slice-between (totals_before m start) counts (totals_before m end) (map f begins.0) (map f (distinct (all_keys m))) joined whole
     ∙ ap₂ (slice_range (map f (distinct (all_keys m)))) (length-map (keys_before m start) f) (length-map (keys_before m end) f)
 
+pub as-many : (m : Prepared) (start end : Start) (keys : List Key) (counts : List ℕ) → keys_before m start ++ keys ≡ keys_before m end → totals_before m start ++ counts ≡ totals_before m end → length keys ≡ length counts
+as-many m start end keys counts joined added =
+    let f : Key → ℕ = λ x. total (is_key x) (all_keys m) (all_counts m) in
+    omega (
+      arith,
+      ap length joined,
+      ap length added,
+      length-append (keys_before m start) keys,
+      length-append (totals_before m start) counts,
+      length-map (keys_before m start) f,
+      length-map (keys_before m end) f,
+    )
+
 -- ---- where parts begin and end
 before-none : (m : Prepared) (start : Start) → start.segment ≡ 0 → keys_before m start ≡ []
 unfolding distinct

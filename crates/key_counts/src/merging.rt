@@ -97,7 +97,8 @@ fn place_of(hasher: RandomState, entries: usize) -> Place
 pub struct Start {
     /// The index of its first segment.
     segment: usize,
-    /// How many entries stand before. It only decides how much memory is reserved.
+    /// How many entries stand before. It only decides where parts begin, and how much memory is
+    /// reserved.
     entries: usize,
     /// How far the entries that may share a key are merged there.
     position: Position,
@@ -214,6 +215,7 @@ impl<'a> Prepared<'a> {
             keys_before self.now start ++ lent m.keys.items ≡ keys_before self.now end) }
         ensures counts { IfOk result (λ m.
             totals_before self.now start ++ m.counts.items ≡ totals_before self.now end) }
+        ensures len { IfOk result (λ m. length (lent m.keys.items) ≡ length m.counts.items) }
     {
         let capacity = end.keys().saturating_sub(start.keys());
         let mut walk = Walk::new(alloc, capacity, start.position)?;
@@ -300,6 +302,7 @@ impl<'a> Merging<'a> {
             (λ m. lent m.keys.items ≡ part_at self.now.ends i self.now.keys) }
         ensures counts { IfOk result
             (λ m. m.counts.items ≡ part_at self.now.ends i self.now.counts) }
+        ensures len { IfOk result (λ m. length (lent m.keys.items) ≡ length m.counts.items) }
     {
         self.prepared
             .walked(alloc, self.bounds[i], self.bounds[i + 1])
@@ -309,6 +312,7 @@ impl<'a> Merging<'a> {
     pub fn all(&self, alloc: Global) -> Result<Merged<'a>, Memory>
         ensures keys { IfOk result (λ m. lent m.keys.items ≡ self.now.keys) }
         ensures counts { IfOk result (λ m. m.counts.items ≡ self.now.counts) }
+        ensures len { IfOk result (λ m. length (lent m.keys.items) ≡ length m.counts.items) }
     {
         self.prepared
             .walked(alloc, self.bounds[0], self.bounds[self.bounds.len() - 1])

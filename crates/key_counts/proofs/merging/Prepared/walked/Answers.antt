@@ -1,12 +1,13 @@
-use Rattle.std.proofs.Common.{◌≡◌, ◌∙◌, ◌<◌, ap, arith, get_or, length, subst, sym, take, false}
+use Rattle.std.proofs.Common.{◌≡◌, ◌∙◌, ◌<◌, ◌++◌, ap, arith, get_or, length, subst, sym, take, false}
 use Rattle.std.proofs.lemmas.List.{get_or_read}
-use Rattle.key_index.specs.Keys.{distinct}
+use Rattle.key_index.specs.Keys.{distinct, lent}
 use Rattle.key_counts.specs.Counts.{Entries, no_entries}
-use Rattle.key_counts.specs.Private.Prepared.{all_counts, all_keys, entries_before}
+use Rattle.key_counts.specs.Private.Prepared.{all_counts, all_keys, entries_before, keys_before, totals_before}
 use Rattle.key_counts.specs.Private.Twins.{may_have_twin}
 use Rattle.key_counts.specs.Private.Walks.{AreNext, IsWalked}
 use Rattle.key_counts.specs.Segments.{IsSegment, entries_of, totals_of}
 use Rattle.key_counts.specs.declared.merging.Segment.{Segment}
+use Rattle.key_counts.proofs.Divided.{as-many}
 use Rattle.key_counts.proofs.Flags.{has-flags-of}
 use Rattle.key_counts.proofs.Parts.{follows, len-more}
 use Rattle.key_counts.proofs.Walks.{start}
@@ -47,14 +48,23 @@ loop-i-preserved c =
     subst (λ n. IsWalked (may_have_twin m.twins) (all_keys m) (all_counts m) first n c.take_segment.new.self) (sym (len-more workers segments i no_segment so.segments within))
     (c.in_ok-take_segment.ensures (all_keys m) (all_counts m) first k so.totals next c.loop-i.invariant)
 
-pub returns-clause-keys : goal.returns-clause-keys
-returns-clause-keys c =
+joined-keys : (c : goal.After-loop-i) → keys_before c.args.self.now c.args.start ++ lent c.loop-i.walk.keys.items ≡ keys_before c.args.self.now c.args.end
+joined-keys c =
     let m = c.args.self.now in
     let end : c.loop-i.i ≡ c.args.end.segment = omega (arith, c.requires.order) in
     c.loop-i.invariant.keys ∙ ap (λ i. distinct (take (entries_before m i) (all_keys m))) end
 
-pub returns-clause-counts : goal.returns-clause-counts
-returns-clause-counts c =
+joined-totals : (c : goal.After-loop-i) → totals_before c.args.self.now c.args.start ++ c.loop-i.walk.counts.items ≡ totals_before c.args.self.now c.args.end
+joined-totals c =
     let m = c.args.self.now in
     let end : c.loop-i.i ≡ c.args.end.segment = omega (arith, c.requires.order) in
     c.loop-i.invariant.totals ∙ ap (λ i. totals_of (distinct (take (entries_before m i) (all_keys m))) (all_keys m) (all_counts m)) end
+
+pub returns-clause-keys : goal.returns-clause-keys
+returns-clause-keys c = joined-keys c
+
+pub returns-clause-counts : goal.returns-clause-counts
+returns-clause-counts c = joined-totals c
+
+pub returns-clause-len : goal.returns-clause-len
+returns-clause-len c = as-many c.args.self.now c.args.start c.args.end (lent c.loop-i.walk.keys.items) c.loop-i.walk.counts.items (joined-keys c) (joined-totals c)
