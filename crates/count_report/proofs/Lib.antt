@@ -1,1 +1,2 @@
+pub mod PartTexts
 pub mod Reported

@@ -1,11 +1,12 @@
 //! A count, from a source to a sink.
 
-ghost use Rattle.std.specs.Prelude.{◌≡◌, ◌+◌, ◌++◌, List, None, Ok, IfErr, IfOk, IfSome, OnErr, OnOk, flat_map, length, vec_items};
+ghost use Rattle.std.specs.Prelude.{◌≡◌, ◌<◌, ◌+◌, ◌++◌, List, None, Ok, IfErr, IfOk, IfSome, OnErr, OnOk, flat_map, length, vec_items, vec_len};
 ghost use Rattle.count_report.specs.CountReport.{report_of_count};
-ghost use Rattle.count_report.specs.Private.Counted.{ReportsCounted, TellsCounters, skipped};
-ghost use Rattle.report_rows.specs.CountRows.{listed_rows};
+ghost use Rattle.count_report.specs.Private.Counted.{IsTextOfPart, ReportsCounted, TellsCounters, skipped};
+ghost use Rattle.report_rows.specs.CountRows.{count_rows, listed_rows, top_rows};
 ghost use Rattle.report_rows.specs.Rows.{total_row};
 ghost use Rattle.std.specs.Io.KnownBytes.{Appends};
+ghost use Rattle.parallel.specs.Results.{AreResults};
 ghost use Rattle.byte_io.specs.Devices.{AppendsPrefix, CanStillFail};
 ghost use Rattle.key_index.specs.Keys.{Key};
 ghost use Rattle.key_stream.specs.Tally.{HaveCounted};
@@ -17,12 +18,11 @@ ghost use Rattle.ingest.specs.Reports.{AreInRange, IsFaultOf, IsNoWrite, WritesA
 use byte_io::{Sink, Source, write_texts};
 use command_line::Options;
 use ingest::{count_file, window_for, workers_for};
-use key_counts::KeyCounts;
-use key_index::KeyList;
+use key_counts::{KeyCounts, Merging};
 use key_stream::{Counters, Counting};
 use lane_words::{Memory, Refusal};
-use parallel::{LEAST_BYTES, LEAST_DROPS, drop_each};
-use report_rows::count_rows::count_rows_texts;
+use parallel::{LEAST_BYTES, LEAST_DROPS, collected, drop_each, no_results};
+use report_rows::count_rows::{count_rows_text, with_total};
 use report_rows::top_rows::top_text;
 use std::alloc::Global;
 use std::hash::RandomState;
@@ -30,27 +30,89 @@ use std::random::RandomSource;
 use std::thread;
 use std::thread::Threads;
 
-/// The text of a count: the rows of all keys or of the top, and the number of records as both
-/// totals.
-fn texts_of_count<R: Threads + Sync, K: KeyList + Sync>(
+/// The rows of the keys of one part.
+fn rows_of_part(alloc: Global, merging: &Merging<'_>, i: usize) -> Result<Vec<u8>, Memory>
+    requires { i < length merging.now.ends }
+    ensures { IfOk result (IsTextOfPart merging.now i) }
+{
+    let merged = merging.part(alloc, i)?;
+    count_rows_text(alloc, &merged.keys, merged.counts.as_slice())
+}
+
+/// Makes the rows of so many parts, in as many threads as there are processors. Few entries are one
+/// part, whose rows the calling thread makes.
+fn make_parts<R: Threads + Sync>(
     rt: &R,
     alloc: Global,
-    keys: &K,
-    counts: &[u64],
-    records: u64,
-    top: Option<u32>,
-) -> Result<Vec<Vec<u8>>, Memory>
-    requires { length (K.keys keys.now) ≡ length counts.now }
-    ensures { IfOk result (λ texts. flat_map vec_items texts.items
-        ≡ listed_rows top (K.keys keys.now) counts.now ++ total_row records records) }
+    merging: &Merging<'_>,
+    parts: usize,
+) -> Result<Vec<Result<Vec<u8>, Memory>>, Memory>
+    requires { parts ≡ length merging.now.ends }
+    ensures len { IfOk result (λ found. vec_len found ≡ parts) }
+    ensures found { IfOk result (λ found.
+        AreResults (IsTextOfPart merging.now) parts found.items) }
 {
-    let Some(most) = top else {
-        return count_rows_texts(rt, alloc, keys, counts, records, records);
-    };
-    let text = top_text(alloc, keys, counts, most, records, records)?;
+    let mut found = no_results(alloc, parts)?;
+    let threads = workers_for(rt).min(parts).max(1);
+    thread::for_each_mut(
+        rt,
+        &mut found,
+        threads,
+        &|i, own: &mut Result<Vec<u8>, Memory>| {
+            *own = rows_of_part(alloc, merging, i);
+        },
+    );
+    Ok(found)
+}
+
+/// The rows of all keys, in texts to be written one after another.
+fn rows_parallel<R: Threads + Sync>(
+    rt: &R,
+    alloc: Global,
+    merging: &Merging<'_>,
+) -> Result<Vec<Vec<u8>>, Memory>
+    ensures { IfOk result (λ texts. flat_map vec_items texts.items
+        ≡ count_rows merging.now.keys merging.now.counts) }
+{
+    let found = make_parts(rt, alloc, merging, merging.parts())?;
+    collected(alloc, found)
+}
+
+/// The text of a count of which only the top has rows.
+fn top_texts(
+    alloc: Global,
+    merging: &Merging<'_>,
+    most: u32,
+    records: u64,
+) -> Result<Vec<Vec<u8>>, Memory>
+    ensures { IfOk result (λ texts. flat_map vec_items texts.items
+        ≡ top_rows most merging.now.keys merging.now.counts ++ total_row records records) }
+{
+    let merged = merging.all(alloc)?;
+    let counts = merged.counts.as_slice();
+    let text = top_text(alloc, &merged.keys, counts, most, records, records)?;
     let mut texts = Vec::new(alloc);
     texts.push(text)?;
     Ok(texts)
+}
+
+/// The text of a count: the rows of all keys or of the top, and the number of records as both
+/// totals.
+fn texts_of_count<R: Threads + Sync>(
+    rt: &R,
+    alloc: Global,
+    merging: &Merging<'_>,
+    records: u64,
+    top: Option<u32>,
+) -> Result<Vec<Vec<u8>>, Memory>
+    ensures { IfOk result (λ texts. flat_map vec_items texts.items
+        ≡ listed_rows top merging.now.keys merging.now.counts ++ total_row records records) }
+{
+    let Some(most) = top else {
+        let texts = rows_parallel(rt, alloc, merging)?;
+        return with_total(alloc, texts, records, records);
+    };
+    top_texts(alloc, merging, most, records)
 }
 
 /// How many bytes stand before each key: with topics the index of its topic.
@@ -78,9 +140,8 @@ fn texts_of_counters<R: Threads + Sync + RandomSource>(
     ensures { IfOk result (TellsCounters options.now counters.now records) }
 {
     let skip = bytes_before_keys(options);
-    let merged = counters.totals(rt, alloc, hasher, skip)?;
-    let counts = merged.counts.as_slice();
-    texts_of_count(rt, alloc, &merged.keys, counts, records, options.top)
+    let merging = counters.merging(rt, alloc, hasher, skip)?;
+    texts_of_count(rt, alloc, &merging, records, options.top)
 }
 
 /// How many entries counters have together.

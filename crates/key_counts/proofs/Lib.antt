@@ -1,4 +1,6 @@
+pub mod Bounds
 pub mod Bytes
+pub mod Divided
 pub mod Flags
 pub mod Growing
 pub mod Made

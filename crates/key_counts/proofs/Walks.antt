@@ -1,5 +1,5 @@
 -- Entries merged in their order.
-use Rattle.std.proofs.Common.{◌≡◌, ◌≢◌, ◌∙◌, ◌+◌, ◌*◌, ◌<◌, ◌≤◌, ℕ, zero, suc, Bool, true, false, List, [], ◌∷◌, ◌++◌, length, map, take, drop, cond, get_or, sym, ap, ap₂, refl, arith, inl, inr, append_assoc, length-append}
+use Rattle.std.proofs.Common.{◌≡◌, ◌≢◌, ◌∙◌, ◌+◌, ◌*◌, ◌<◌, ◌≤◌, ℕ, zero, suc, Bool, true, false, Some, None, List, [], ◌∷◌, ◌++◌, length, map, take, drop, cond, get_or, sym, subst, ap, ap₂, refl, arith, inl, inr, append_assoc, length-append}
 use Rattle.std.specs.Prelude.{count_by, filter, if◌then◌else◌, sum_by}
 use Rattle.std.specs.List.{fold}
 use Rattle.std.specs.Str.{bytes_eq}
@@ -15,10 +15,11 @@ use Rattle.key_index.proofs.Growth.{interned}
 use Rattle.key_index.specs.Keys.{Key, distinct, id_of, is_interned, key_at, lent, with_key}
 use Rattle.key_counts.specs.Counts.{total}
 use Rattle.key_counts.specs.Private.Filter.{AreOnce}
-use Rattle.key_counts.specs.Private.Walks.{AreTotalled, IsNext, IsStart, IsWalked, kept}
+use Rattle.key_counts.specs.Private.Walks.{AreTotalled, IsAt, IsNewTotal, IsNext, IsStart, IsWalked, kept}
 use Rattle.key_counts.specs.Segments.{is_key, totals_of}
-use Rattle.key_counts.specs.declared.merging.Walk.{Walk}
 use Rattle.key_counts.specs.declared.shared.Totals.{Totals}
+use Rattle.key_counts.specs.declared.walk.Position.{Position}
+use Rattle.key_counts.specs.declared.walk.Walk.{Walk}
 
 -- ---- a key that is there once
 absent-more : (ks : List Key) (x y : Key) → is_interned ks x ≡ false → bytes_eq x y ≡ false → is_interned (ks ++ y ∷ []) x ≡ false
@@ -257,10 +258,10 @@ counted-no p old was counts after before all x n is ns len px so =
     ∙ ap₂ (λ ks ms. old ++ kept p ks ms) (sym is) (sym ns)
 
 -- ---- one more entry is merged
-new-keys : (ks : List Key) (x : Key) → is_interned ks x ≡ false → with_key ks x ≡ ks ++ x ∷ []
+pub new-keys : (ks : List Key) (x : Key) → is_interned ks x ≡ false → with_key ks x ≡ ks ++ x ∷ []
 new-keys ks x fails = rw fails refl
 
-old-keys : (ks : List Key) (x : Key) → is_interned ks x ≡ true → with_key ks x ≡ ks
+pub old-keys : (ks : List Key) (x : Key) → is_interned ks x ≡ true → with_key ks x ≡ ks
 old-keys ks x passes = rw passes refl
 
 -- the distinct keys of one more entry, and their totals
@@ -273,39 +274,68 @@ more-totals all counts k x lt is fails =
     let f : Key → ℕ = λ y. total (is_key y) all counts in
     ap (map f) (more-keys all k x lt is ∙ new-keys (distinct (take k all)) x fails) ∙ map-append f (distinct (take k all)) (x ∷ [])
 
-pub walked-unique : (p : Key → Bool) (all : List Key) (counts : List ℕ) (k : ℕ) (x : Key) (n : ℕ) (t : Totals) (old new : Walk) → p x ≡ false → AreTotalled p all counts t → IsNext all counts k x n
-    → IsWalked p all counts k old → lent new.keys.items ≡ lent old.keys.items ++ x ∷ [] → new.counts.items ≡ old.counts.items ++ n ∷ [] → new.at ≡ old.at → new.next ≡ old.next
-    → IsWalked p all counts (k + 1) new
-walked-unique p all counts k x n t old new fails so at was keys totals same_at same_next =
-    let absent = unique-new p all k x so.once at.within at.same fails in
-    let own : n ≡ total (is_key x) all counts = at.count ∙ sym (unique-total p all counts k x so.once so.len at.within at.same fails) in
-    let rest : filter p (take (k + 1) all) ≡ filter p (take k all) = ap (filter p) (taken-more all k x at.within at.same) ∙ filter-no p (take k all) x fails ∙ append-nil (filter p (take k all)) in
+-- the entry has a new key
+pub walked-new : (p : Key → Bool) (all : List Key) (counts : List ℕ) (from k : ℕ) (x : Key) (n : ℕ) (old new : Walk) → k < length all → x ≡ key_at all k → is_interned (distinct (take k all)) x ≡ false
+    → n ≡ total (is_key x) all counts → IsWalked p all counts from k old → lent new.keys.items ≡ lent old.keys.items ++ x ∷ [] → new.counts.items ≡ old.counts.items ++ n ∷ [] → IsAt p all (k + 1) new.position
+    → IsWalked p all counts from (k + 1) new
+walked-new p all counts from k x n old new lt is absent own was keys totals here =
+    let before = distinct (take from all) in
+    let done = distinct (take k all) in
     record {
-      keys = keys ∙ ap (λ ks. ks ++ x ∷ []) was.keys ∙ sym (new-keys (distinct (take k all)) x absent) ∙ sym (more-keys all k x at.within at.same);
-      totals = totals ∙ ap (λ ms. ms ++ n ∷ []) was.totals ∙ ap (λ m. totals_of (distinct (take k all)) all counts ++ m ∷ []) own ∙ sym (more-totals all counts k x at.within at.same absent);
-      at = same_at ∙ was.at ∙ ap length (sym rest);
-      next = same_next ∙ was.next ∙ ap (λ ks. length (distinct ks)) (sym rest);
+      keys = ap (λ ks. before ++ ks) keys ∙ sym (append_assoc before (lent old.keys.items) (x ∷ [])) ∙ ap (λ ks. ks ++ x ∷ []) was.keys ∙ sym (new-keys done x absent) ∙ sym (more-keys all k x lt is);
+      totals = ap (λ ms. totals_of before all counts ++ ms) totals ∙ sym (append_assoc (totals_of before all counts) old.counts.items (n ∷ [])) ∙ ap (λ ms. ms ++ n ∷ []) was.totals
+          ∙ ap (λ m. totals_of done all counts ++ m ∷ []) own ∙ sym (more-totals all counts k x lt is absent);
+      here = here;
     }
 
+-- the entry has a key that came before
+pub walked-old : (p : Key → Bool) (all : List Key) (counts : List ℕ) (from k : ℕ) (x : Key) (old new : Walk) → k < length all → x ≡ key_at all k → is_interned (distinct (take k all)) x ≡ true
+    → IsWalked p all counts from k old → lent new.keys.items ≡ lent old.keys.items → new.counts.items ≡ old.counts.items → IsAt p all (k + 1) new.position
+    → IsWalked p all counts from (k + 1) new
+walked-old p all counts from k x old new lt is there was keys totals here =
+    let before = distinct (take from all) in
+    let same_keys : distinct (take (k + 1) all) ≡ distinct (take k all) = more-keys all k x lt is ∙ old-keys (distinct (take k all)) x there in
+    record {
+      keys = ap (λ ks. before ++ ks) keys ∙ was.keys ∙ sym same_keys;
+      totals = ap (λ ms. totals_of before all counts ++ ms) totals ∙ was.totals ∙ ap (λ ks. totals_of ks all counts) (sym same_keys);
+      here = here;
+    }
+
+-- ---- how far the shared entries are
+pub at-unique : (p : Key → Bool) (all : List Key) (k : ℕ) (x : Key) (here : Position) → p x ≡ false → k < length all → x ≡ key_at all k → IsAt p all k here → IsAt p all (k + 1) here
+at-unique p all k x here fails lt is was =
+    let rest : filter p (take (k + 1) all) ≡ filter p (take k all) = ap (filter p) (taken-more all k x lt is) ∙ filter-no p (take k all) x fails ∙ append-nil (filter p (take k all)) in
+    record {
+      at = was.at ∙ ap length (sym rest);
+      next = was.next ∙ ap (λ ks. length (distinct ks)) (sym rest);
+    }
+
+pub walked-unique : (p : Key → Bool) (all : List Key) (counts : List ℕ) (from k : ℕ) (x : Key) (n : ℕ) (t : Totals) (old new : Walk) → p x ≡ false → AreTotalled p all counts t → IsNext all counts k x n
+    → IsWalked p all counts from k old → lent new.keys.items ≡ lent old.keys.items ++ x ∷ [] → new.counts.items ≡ old.counts.items ++ n ∷ [] → new.position ≡ old.position
+    → IsWalked p all counts from (k + 1) new
+walked-unique p all counts from k x n t old new fails so at was keys totals same =
+    let absent = unique-new p all k x so.once at.within at.same fails in
+    let own : n ≡ total (is_key x) all counts = at.count ∙ sym (unique-total p all counts k x so.once so.len at.within at.same fails) in
+    walked-new p all counts from k x n old new at.within at.same absent own was keys totals (subst (IsAt p all (k + 1)) (sym same) (at-unique p all k x old.position fails at.within at.same was.here))
+
 -- where the key number of a shared entry is
-pub number-at : (p : Key → Bool) (all : List Key) (counts : List ℕ) (k : ℕ) (x : Key) (n : ℕ) (t : Totals) (walk : Walk) → p x ≡ true → AreTotalled p all counts t → IsNext all counts k x n
-    → IsWalked p all counts k walk → (walk.at < length t.ids.items) × (get_or t.ids.items walk.at 0 ≡ id_of (distinct (filter p all)) x)
-number-at p all counts k x n t walk passes so at was =
+pub number-at : (p : Key → Bool) (all : List Key) (counts : List ℕ) (k : ℕ) (x : Key) (n : ℕ) (t : Totals) (here : Position) → p x ≡ true → AreTotalled p all counts t → IsNext all counts k x n
+    → IsAt p all k here → (here.at < length t.ids.items) × (get_or t.ids.items here.at 0 ≡ id_of (distinct (filter p all)) x)
+number-at p all counts k x n t here passes so at was =
     let f = id_of (distinct (filter p all)) in
     let num = numbered p all k x at.within at.same passes in
-    let below : walk.at < length (filter p all) = omega (arith, was.at, num.within) in (
+    let below : here.at < length (filter p all) = omega (arith, was.at, num.within) in (
       omega (arith, below, ap length so.ids, length-map (filter p all) f),
-      ap (λ is. get_or is walk.at 0) so.ids ∙ get_or-map f (filter p all) walk.at [] 0 below ∙ ap (λ m. f (key_at (filter p all) m)) was.at ∙ ap f num.here,
+      ap (λ is. get_or is here.at 0) so.ids ∙ get_or-map f (filter p all) here.at [] 0 below ∙ ap (λ m. f (key_at (filter p all) m)) was.at ∙ ap f num.here,
     )
 
 filter-more : (p : Key → Bool) (all : List Key) (k : ℕ) (x : Key) → k < length all → x ≡ key_at all k → p x ≡ true → filter p (take (k + 1) all) ≡ filter p (take k all) ++ x ∷ []
 filter-more p all k x lt is passes = ap (filter p) (taken-more all k x lt is) ∙ filter-yes p (take k all) x passes
 
-pub walked-new : (p : Key → Bool) (all : List Key) (counts : List ℕ) (k : ℕ) (x : Key) (n id : ℕ) (t : Totals) (old new : Walk) → p x ≡ true → AreTotalled p all counts t → IsNext all counts k x n
-    → IsWalked p all counts k old → id ≡ get_or t.ids.items old.at 0 → id ≡ old.next
-    → lent new.keys.items ≡ lent old.keys.items ++ x ∷ [] → new.counts.items ≡ old.counts.items ++ get_or t.totals.items id 0 ∷ [] → new.at ≡ old.at + 1 → new.next ≡ old.next + 1
-    → IsWalked p all counts (k + 1) new
-walked-new p all counts k x n id t old new passes so at was number next keys totals more_at more_next =
+pub passed-new : (p : Key → Bool) (all : List Key) (counts : List ℕ) (k : ℕ) (x : Key) (n id m : ℕ) (t : Totals) (old new : Position) → p x ≡ true → AreTotalled p all counts t → IsNext all counts k x n
+    → IsAt p all k old → id ≡ get_or t.ids.items old.at 0 → id ≡ old.next → m ≡ get_or t.totals.items id 0 → new.at ≡ old.at + 1 → new.next ≡ old.next + 1
+    → IsAt p all (k + 1) new × IsNewTotal all counts k x (Some m)
+passed-new p all counts k x n id m t old new passes so at was number next read more_at more_next =
     let names = distinct (filter p all) in
     let done = filter p (take k all) in
     let f : Key → ℕ = λ y. total (is_key y) (filter p all) (kept p all counts) in
@@ -314,45 +344,52 @@ walked-new p all counts k x n id t old new passes so at was number next keys tot
     let absent = shared-new p all k x num (sym id_is ∙ next ∙ was.next) in
     let below : id < length names = omega (arith, id_is, num.there) in
     let own : get_or t.totals.items id 0 ≡ total (is_key x) all counts =
-    ap (λ ms. get_or ms id 0) so.totals ∙ get_or-map f names id [] 0 below ∙ ap (λ m. f (key_at names m)) id_is ∙ ap f num.named ∙ kept-total p x all counts passes in
+    ap (λ ms. get_or ms id 0) so.totals ∙ get_or-map f names id [] 0 below ∙ ap (λ i. f (key_at names i)) id_is ∙ ap f num.named ∙ kept-total p x all counts passes in
     let more = filter-more p all k x at.within at.same passes in
-    let new_name : distinct (filter p (take (k + 1) all)) ≡ distinct done ++ x ∷ [] = ap distinct more ∙ distinct-push done x ∙ new-keys (distinct done) x (num.known ∙ absent) in
-    record {
-      keys = keys ∙ ap (λ ks. ks ++ x ∷ []) was.keys ∙ sym (new-keys (distinct (take k all)) x absent) ∙ sym (more-keys all k x at.within at.same);
-      totals = totals ∙ ap (λ ms. ms ++ get_or t.totals.items id 0 ∷ []) was.totals ∙ ap (λ m. totals_of (distinct (take k all)) all counts ++ m ∷ []) own
-          ∙ sym (more-totals all counts k x at.within at.same absent);
-      at = omega (arith, more_at, was.at, ap length more, length-append done (x ∷ []));
-      next = omega (arith, more_next, was.next, ap length new_name, length-append (distinct done) (x ∷ []));
-    }
+    let new_name : distinct (filter p (take (k + 1) all)) ≡ distinct done ++ x ∷ [] = ap distinct more ∙ distinct-push done x ∙ new-keys (distinct done) x (num.known ∙ absent) in (
+      record {
+        at = omega (arith, more_at, was.at, ap length more, length-append done (x ∷ []));
+        next = omega (arith, more_next, was.next, ap length new_name, length-append (distinct done) (x ∷ []));
+      },
+      (absent, read ∙ own),
+    )
 
-pub walked-old : (p : Key → Bool) (all : List Key) (counts : List ℕ) (k : ℕ) (x : Key) (n id : ℕ) (t : Totals) (old new : Walk) → p x ≡ true → AreTotalled p all counts t → IsNext all counts k x n
-    → IsWalked p all counts k old → id ≡ get_or t.ids.items old.at 0 → id ≢ old.next
-    → lent new.keys.items ≡ lent old.keys.items → new.counts.items ≡ old.counts.items → new.at ≡ old.at + 1 → new.next ≡ old.next
-    → IsWalked p all counts (k + 1) new
-walked-old p all counts k x n id t old new passes so at was number other keys totals more_at same_next =
+pub passed-old : (p : Key → Bool) (all : List Key) (counts : List ℕ) (k : ℕ) (x : Key) (n id : ℕ) (t : Totals) (old new : Position) → p x ≡ true → AreTotalled p all counts t → IsNext all counts k x n
+    → IsAt p all k old → id ≡ get_or t.ids.items old.at 0 → id ≢ old.next → new.at ≡ old.at + 1 → new.next ≡ old.next
+    → IsAt p all (k + 1) new × IsNewTotal all counts k x None
+passed-old p all counts k x n id t old new passes so at was number other more_at same_next =
     let done = filter p (take k all) in
     let num = numbered p all k x at.within at.same passes in
     let id_is : id ≡ id_of (distinct (filter p all)) x = number ∙ (number-at p all counts k x n t old passes so at was).1 in
     let there = shared-old p all k x num (λ e. other (id_is ∙ e ∙ sym was.next)) in
     let more = filter-more p all k x at.within at.same passes in
-    let same_keys : distinct (take (k + 1) all) ≡ distinct (take k all) = more-keys all k x at.within at.same ∙ old-keys (distinct (take k all)) x there in
-    let same_names : distinct (filter p (take (k + 1) all)) ≡ distinct done = ap distinct more ∙ distinct-push done x ∙ old-keys (distinct done) x (num.known ∙ there) in
-    record {
-      keys = keys ∙ was.keys ∙ sym same_keys;
-      totals = totals ∙ was.totals ∙ ap (λ ks. totals_of ks all counts) (sym same_keys);
-      at = omega (arith, more_at, was.at, ap length more, length-append done (x ∷ []));
-      next = same_next ∙ was.next ∙ ap length (sym same_names);
-    }
+    let same_names : distinct (filter p (take (k + 1) all)) ≡ distinct done = ap distinct more ∙ distinct-push done x ∙ old-keys (distinct done) x (num.known ∙ there) in (
+      record {
+        at = omega (arith, more_at, was.at, ap length more, length-append done (x ∷ []));
+        next = same_next ∙ was.next ∙ ap length (sym same_names);
+      },
+      there,
+    )
 
 -- a shared entry's number is below that of the keys
-pub new-below : (p : Key → Bool) (all : List Key) (counts : List ℕ) (k : ℕ) (x : Key) (n id : ℕ) (t : Totals) (walk : Walk) → p x ≡ true → AreTotalled p all counts t → IsNext all counts k x n
-    → IsWalked p all counts k walk → id ≡ get_or t.ids.items walk.at 0 → id < length t.totals.items
-new-below p all counts k x n id t walk passes so at was number =
+pub new-below : (p : Key → Bool) (all : List Key) (counts : List ℕ) (k : ℕ) (x : Key) (n id : ℕ) (t : Totals) (here : Position) → p x ≡ true → AreTotalled p all counts t → IsNext all counts k x n
+    → IsAt p all k here → id ≡ get_or t.ids.items here.at 0 → id < length t.totals.items
+new-below p all counts k x n id t here passes so at was number =
     let names = distinct (filter p all) in
     let f : Key → ℕ = λ y. total (is_key y) (filter p all) (kept p all counts) in
     let num = numbered p all k x at.within at.same passes in
-    omega (arith, number, (number-at p all counts k x n t walk passes so at was).1, num.there, ap length so.totals, length-map names f)
+    omega (arith, number, (number-at p all counts k x n t here passes so at was).1, num.there, ap length so.totals, length-map names f)
 
-pub start : (p : Key → Bool) (all : List Key) (counts : List ℕ) (walk : Walk) → IsStart walk → IsWalked p all counts 0 walk
+-- ---- a walk that begins
+pub at-start : (p : Key → Bool) (all : List Key) (here : Position) → here.at ≡ 0 → here.next ≡ 0 → IsAt p all 0 here
 unfolding distinct
-start p all counts walk so = record { keys = so.keys; totals = so.counts; at = so.at; next = so.next }
+at-start p all here at next = record { at = at; next = next }
+
+pub start : (p : Key → Bool) (all : List Key) (counts : List ℕ) (k : ℕ) (here : Position) (walk : Walk) → IsStart here walk → IsAt p all k here → IsWalked p all counts k k walk
+start p all counts k here walk so was =
+    let before = distinct (take k all) in
+    record {
+      keys = ap (λ ks. before ++ ks) so.keys ∙ append-nil before;
+      totals = ap (λ ns. totals_of before all counts ++ ns) so.counts ∙ append-nil (totals_of before all counts);
+      here = subst (IsAt p all k) (sym so.same) was;
+    }

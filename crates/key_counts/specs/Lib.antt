@@ -1,4 +1,5 @@
 pub mod Counts
+pub mod Merging
 pub mod Partition
 pub mod Private
 pub mod Recorded

@@ -3,6 +3,7 @@ pub mod Entry
 pub mod Filter
 pub mod Hashes
 pub mod Parts
+pub mod Prepared
 pub mod Results
 pub mod TakingLaws
 pub mod Totals

@@ -1,11 +1,12 @@
 //! The entries of several workers, merged: their distinct keys, and the totals of these.
 
-ghost use Rattle.std.specs.Prelude.{◌≡◌, ◌<◌, ◌≤◌, ◌+◌, ◌-◌, ◌^◌, ℕ, List, All, IfOk, OnOk, drop, length, true, false};
+ghost use Rattle.std.specs.Prelude.{◌≡◌, ◌<◌, ◌≤◌, ◌+◌, ◌-◌, ◌^◌, ◌++◌, All, IfOk, drop, length};
 ghost use Rattle.key_counts.specs.Counts.{total};
 ghost use Rattle.key_counts.specs.Partition.{HasCounts};
-ghost use Rattle.key_counts.specs.Private.Parts.{IsPartOf};
-ghost use Rattle.key_counts.specs.Private.Twins.{HasFlags, HasFlagsOf, may_have_twin};
-ghost use Rattle.key_counts.specs.Private.Walks.{AreTotalled, IsStart, WalksOn, WalksOver};
+ghost use Rattle.key_counts.specs.Merging.{IsDivided, part_at};
+ghost use Rattle.key_counts.specs.Private.Prepared.{AreBounds, IsBound, IsPrepared, keys_before, totals_before};
+ghost use Rattle.key_counts.specs.Private.Results.{list_of};
+ghost use Rattle.key_counts.specs.Private.Walks.{PassesOver};
 ghost use Rattle.key_counts.specs.Segments.{IsSegment, counts_of, is_key, keys_behind, keys_of, merged_counts};
 ghost use Rattle.key_index.specs.Keys.{Key, distinct, lent};
 
@@ -13,12 +14,18 @@ use crate::counts::KeyCounts;
 use crate::filter::Place;
 use crate::shared::{Totals, gathered};
 use crate::twins::Twins;
+use crate::walk::{Position, Walk};
 use key_index::KeyHash;
 use lane_words::{MOST_RECORDS, Memory};
+use parallel::LEAST_KEYS;
 use std::alloc::Global;
 use std::hash::RandomState;
+use std::marker::Model;
 use std::random::RandomSource;
 use std::thread::Threads;
+
+/// In how many parts, about, many entries are merged.
+const PARTS: usize = 64;
 
 /// The new entries of one chunk: those of a worker from code `from` on, below `to`.
 #[derive(Clone, Copy, Debug)]
@@ -75,117 +82,6 @@ fn most_entries(workers: &[KeyCounts]) -> usize {
     most
 }
 
-/// Entries merged so far.
-#[derive(Debug, Drop)]
-struct Walk<'a> {
-    /// The distinct keys, in the order of their first appearance.
-    keys: Vec<&'a [u8]>,
-    /// How many records each key has.
-    counts: Vec<u64>,
-    /// How many entries came that may share a key.
-    at: usize,
-    /// How many distinct keys these have.
-    next: usize,
-}
-
-impl<'a> Walk<'a> {
-    /// Nothing yet, with memory for so many keys.
-    fn new(alloc: Global, capacity: usize) -> Result<Walk<'a>, Memory>
-        ensures { IfOk result IsStart }
-    {
-        Ok(Walk {
-            keys: Vec::with_capacity(alloc, capacity)?,
-            counts: Vec::with_capacity(alloc, capacity)?,
-            at: 0,
-            next: 0,
-        })
-    }
-
-    /// Takes an entry that shares its key with no other.
-    #[inline(always)]
-    fn take_unique(&mut self, key: &'a [u8], count: u64, shared: &Totals) -> Result<(), Memory>
-        ensures { OnOk result (WalksOn false shared.now key.now count self.old self.new) }
-    {
-        self.keys.push(key)?;
-        self.counts.push(count)?;
-        Ok(())
-    }
-
-    /// Takes an entry that may share its key: the key is new if its number is the next.
-    #[inline(always)]
-    fn take_shared(&mut self, key: &'a [u8], shared: &Totals) -> Result<(), Memory>
-        ensures { OnOk result ((n : ℕ) → WalksOn true shared.now key.now n self.old self.new) }
-    {
-        if self.at >= shared.ids.len() {
-            return Ok(());
-        }
-        let id = shared.ids[self.at] as usize;
-        self.at += 1;
-        if id == self.next && id < shared.totals.len() {
-            self.keys.push(key)?;
-            self.counts.push(shared.totals[id])?;
-            self.next += 1;
-        }
-        Ok(())
-    }
-
-    /// Takes the entries of a segment.
-    fn take_segment(
-        &mut self,
-        twins: &Twins,
-        shared: &Totals,
-        entries: &'a KeyCounts,
-        segment: Segment,
-        skip: usize,
-    ) -> Result<(), Memory>
-        requires part { IsPartOf entries.now segment }
-        requires flags { HasFlagsOf twins.now skip entries.now segment.worker }
-        ensures { OnOk result (WalksOver (may_have_twin twins.now) shared.now skip entries.now
-            segment self.old self.new) }
-    {
-        let flags = twins.flags_in(segment.worker);
-        for code in segment.from..segment.to {
-            let key = behind(entries.key(code), skip);
-            if flags[code] {
-                self.take_shared(key, shared)?;
-            } else {
-                self.take_unique(key, entries.count(code), shared)?;
-            }
-        }
-        Ok(())
-    }
-}
-
-/// Merges the entries of these segments, in their order.
-fn walked<'a>(
-    mut walk: Walk<'a>,
-    twins: &Twins,
-    shared: &Totals,
-    workers: &'a [KeyCounts],
-    segments: &[Segment],
-    skip: usize,
-) -> Result<Merged<'a>, Memory>
-    requires start { IsStart walk }
-    requires counted { All HasCounts workers.now }
-    requires segments { All (IsSegment workers.now) segments.now }
-    requires flags { HasFlags twins.now skip workers.now }
-    requires shared { AreTotalled (may_have_twin twins.now)
-        (keys_behind skip workers.now segments.now) (counts_of workers.now segments.now)
-        shared.now }
-    ensures keys { IfOk result
-        (λ m. lent m.keys.items ≡ distinct (keys_behind skip workers.now segments.now)) }
-    ensures counts { IfOk result
-        (λ m. m.counts.items ≡ merged_counts skip workers.now segments.now) }
-{
-    for i in 0..segments.len() {
-        let segment = segments[i];
-        let entries = &workers[segment.worker];
-        walk.take_segment(twins, shared, entries, segment, skip)?;
-    }
-    let Walk { keys, counts, .. } = walk;
-    Ok(Merged { keys, counts })
-}
-
 /// How the keys of so many entries are placed: in eight cells for each entry, or more.
 fn place_of(hasher: RandomState, entries: usize) -> Place
     requires { entries ≤ MOST_RECORDS }
@@ -196,35 +92,231 @@ fn place_of(hasher: RandomState, entries: usize) -> Place
     }
 }
 
-/// Merges the entries of these segments by key, in the order of the segments. The first `skip`
-/// bytes of each key are left out: what stands before a key does not make it another. Keys are
-/// hashed by this hasher, which a stranger must not know. Fails with `Memory` if an allocation or
-/// the random source failed, and if there are more than `MOST_RECORDS` entries.
-pub fn merge<'a, R: Threads + Sync + RandomSource>(
-    rt: &R,
-    alloc: Global,
-    hasher: RandomState,
+/// Where a part of the segments begins.
+#[derive(Clone, Copy, Debug)]
+pub struct Start {
+    /// The index of its first segment.
+    segment: usize,
+    /// How many entries stand before. It only decides where parts begin, and how much memory is
+    /// reserved.
+    entries: usize,
+    /// How far the entries that may share a key are merged there.
+    position: Position,
+}
+
+impl Start {
+    /// How many distinct keys stand before. It only decides how much memory is reserved.
+    fn keys(&self) -> usize {
+        let Position { at, next } = self.position;
+        self.entries.saturating_sub(at).saturating_add(next)
+    }
+
+    /// The start after a segment.
+    fn after(self, twins: &Twins, shared: &Totals, segment: Segment) -> Start
+        requires order { segment.from ≤ segment.to }
+        requires worker { segment.worker < length twins.now.flags.items }
+        requires within { segment.to ≤ length (list_of twins.now.flags.items segment.worker) }
+        requires segment { self.segment < 2 ^ 64 - 1 }
+        ensures segment { result.segment ≡ self.segment + 1 }
+        ensures position { PassesOver shared.now
+            (list_of twins.now.flags.items segment.worker) segment self.position result.position }
+    {
+        let mut position = self.position;
+        position.pass_segment(twins.flags_in(segment.worker), shared, segment);
+        Start {
+            segment: self.segment + 1,
+            entries: self
+                .entries
+                .saturating_add(segment.to.saturating_sub(segment.from)),
+            position,
+        }
+    }
+}
+
+/// Entries of workers, and what a walk over them needs.
+#[derive(Drop)]
+pub struct Prepared<'a> {
+    /// The workers.
     workers: &'a [KeyCounts],
-    segments: &[Segment],
+    /// The segments, in their order.
+    segments: &'a [Segment],
+    /// How many bytes of each key are left out.
     skip: usize,
-) -> Result<Merged<'a>, Memory>
-    requires segments { All (IsSegment workers.now) segments.now }
-    requires sums { (x : Key) → total (is_key x) (keys_behind skip workers.now segments.now)
-        (counts_of workers.now segments.now) < 2 ^ 64 }
-    ensures keys { IfOk result
-        (λ m. lent m.keys.items ≡ distinct (keys_behind skip workers.now segments.now)) }
-    ensures counts { IfOk result
-        (λ m. m.counts.items ≡ merged_counts skip workers.now segments.now) }
-{
-    are_counted(workers);
-    let entries = len_of(workers, segments)?;
-    let place = place_of(hasher, entries);
-    let twins = Twins::of(rt, alloc, place, workers, segments, skip)?;
-    let shared = gathered(alloc, &twins, workers, segments, skip)?;
-    let totals = shared.totals(rt, alloc, most_entries(workers).min(shared.keys.len()))?;
-    let unique = entries.saturating_sub(totals.ids.len());
-    let walk = Walk::new(alloc, unique.saturating_add(totals.totals.len()))?;
-    walked(walk, &twins, &totals, workers, segments, skip)
+    /// Which entries may have a twin.
+    twins: Twins,
+    /// The totals of the keys of these.
+    totals: Totals,
+}
+
+impl<'a> Prepared<'a> {
+    /// Finds what a walk over the entries of these segments needs.
+    fn new<R: Threads + Sync + RandomSource>(
+        rt: &R,
+        alloc: Global,
+        place: Place,
+        workers: &'a [KeyCounts],
+        segments: &'a [Segment],
+        skip: usize,
+    ) -> Result<Prepared<'a>, Memory>
+        requires bound { length (keys_of workers.now segments.now) ≤ MOST_RECORDS }
+        requires segments { All (IsSegment workers.now) segments.now }
+        requires sums { (x : Key) → total (is_key x) (keys_behind skip workers.now segments.now)
+            (counts_of workers.now segments.now) < 2 ^ 64 }
+        ensures prepared { IfOk result IsPrepared }
+        ensures workers { IfOk result (λ m. m.workers.now ≡ workers.now) }
+        ensures segments { IfOk result (λ m. m.segments.now ≡ segments.now) }
+        ensures skip { IfOk result (λ m. m.skip ≡ skip) }
+    {
+        are_counted(workers);
+        let twins = Twins::of(rt, alloc, place, workers, segments, skip)?;
+        let shared = gathered(alloc, &twins, workers, segments, skip)?;
+        let totals = shared.totals(rt, alloc, most_entries(workers).min(shared.keys.len()))?;
+        Ok(Prepared {
+            workers,
+            segments,
+            skip,
+            twins,
+            totals,
+        })
+    }
+
+    /// Where the parts of so many entries begin, and after them where the last one ends. No key is
+    /// read.
+    fn bounds(&self, alloc: Global, entries: usize) -> Result<Vec<Start>, Memory>
+        requires { IsPrepared self.now }
+        ensures { IfOk result (λ bounds. AreBounds self.now bounds.items) }
+    {
+        let least = (entries / PARTS).max(LEAST_KEYS);
+        let mut bounds: Vec<Start> = Vec::new(alloc);
+        let mut here = Start {
+            segment: 0,
+            entries: 0,
+            position: Position { at: 0, next: 0 },
+        };
+        let mut begun = 0;
+        for i in 0..self.segments.len() {
+            if i == 0 || here.entries.saturating_sub(begun) >= least {
+                begun = here.entries;
+                bounds.push(here)?;
+            }
+            here = here.after(&self.twins, &self.totals, self.segments[i]);
+        }
+        bounds.push(here)?;
+        Ok(bounds)
+    }
+
+    /// Merges the entries of the segments from one start on, up to another.
+    fn walked(&self, alloc: Global, start: Start, end: Start) -> Result<Merged<'a>, Memory>
+        requires prepared { IsPrepared self.now }
+        requires start { IsBound self.now start }
+        requires end { IsBound self.now end }
+        requires order { start.segment ≤ end.segment }
+        ensures keys { IfOk result (λ m.
+            keys_before self.now start ++ lent m.keys.items ≡ keys_before self.now end) }
+        ensures counts { IfOk result (λ m.
+            totals_before self.now start ++ m.counts.items ≡ totals_before self.now end) }
+        ensures len { IfOk result (λ m. length (lent m.keys.items) ≡ length m.counts.items) }
+    {
+        let capacity = end.keys().saturating_sub(start.keys());
+        let mut walk = Walk::new(alloc, capacity, start.position)?;
+        let workers = self.workers;
+        for i in start.segment..end.segment {
+            let segment = self.segments[i];
+            let entries = &workers[segment.worker];
+            walk.take_segment(&self.twins, &self.totals, entries, segment, self.skip)?;
+        }
+        let Walk { keys, counts, .. } = walk;
+        Ok(Merged { keys, counts })
+    }
+}
+
+/// The entries of segments, prepared to be merged by key, in parts or as a whole.
+#[derive(Drop)]
+pub struct Merging<'a> {
+    /// The entries.
+    prepared: Prepared<'a>,
+    /// Where each part begins, and after them where the last one ends.
+    bounds: Vec<Start>,
+}
+
+impl<'a> Model for Merging<'a> {
+    ghost use Rattle.std.specs.Prelude.{drop, map, length};
+    ghost use Rattle.key_index.specs.Keys.{distinct};
+    ghost use Rattle.key_counts.specs.Merging.{Parted};
+    ghost use Rattle.key_counts.specs.Private.Prepared.{AreBounds, IsPrepared, keys_before};
+    ghost use Rattle.key_counts.specs.Segments.{keys_behind, merged_counts};
+
+    ghost Value = { Parted };
+
+    ghost view = { λ s. record {
+      keys = distinct (keys_behind s.prepared.skip s.prepared.workers.now s.prepared.segments.now);
+      counts = merged_counts s.prepared.skip s.prepared.workers.now s.prepared.segments.now;
+      ends = drop 1 (map (λ b. length (keys_before s.prepared b)) s.bounds.items);
+    } };
+
+    ghost invariant = { λ s. IsPrepared s.prepared × AreBounds s.prepared s.bounds.items };
+}
+
+impl<'a> Merging<'a> {
+    /// Prepares the entries of these segments to be merged by key, in the order of the segments.
+    /// The first `skip` bytes of each key are left out: what stands before a key does not make it
+    /// another. Keys are hashed by this hasher, which a stranger must not know. Fails with `Memory`
+    /// if an allocation or the random source failed, and if there are more than `MOST_RECORDS`
+    /// entries.
+    pub fn new<R: Threads + Sync + RandomSource>(
+        rt: &R,
+        alloc: Global,
+        hasher: RandomState,
+        workers: &'a [KeyCounts],
+        segments: &'a [Segment],
+        skip: usize,
+    ) -> Result<Merging<'a>, Memory>
+        requires segments { All (IsSegment workers.now) segments.now }
+        requires sums { (x : Key) → total (is_key x) (keys_behind skip workers.now segments.now)
+            (counts_of workers.now segments.now) < 2 ^ 64 }
+        ensures keys { IfOk result
+            (λ m. m.keys ≡ distinct (keys_behind skip workers.now segments.now)) }
+        ensures counts { IfOk result
+            (λ m. m.counts ≡ merged_counts skip workers.now segments.now) }
+    {
+        let entries = len_of(workers, segments)?;
+        let place = place_of(hasher, entries);
+        let prepared = Prepared::new(rt, alloc, place, workers, segments, skip)?;
+        let bounds = prepared.bounds(alloc, entries)?;
+        Ok(Merging { prepared, bounds })
+    }
+
+    /// How many parts there are, each of which can be merged by itself.
+    pub fn parts(&self) -> usize
+        ensures value { result ≡ length self.now.ends }
+        ensures divided { IsDivided self.now }
+    {
+        self.bounds.len() - 1
+    }
+
+    /// Merges one part: its keys are those that no part before it has, in the order of their first
+    /// appearance.
+    pub fn part(&self, alloc: Global, i: usize) -> Result<Merged<'a>, Memory>
+        requires { i < length self.now.ends }
+        ensures keys { IfOk result
+            (λ m. lent m.keys.items ≡ part_at self.now.ends i self.now.keys) }
+        ensures counts { IfOk result
+            (λ m. m.counts.items ≡ part_at self.now.ends i self.now.counts) }
+        ensures len { IfOk result (λ m. length (lent m.keys.items) ≡ length m.counts.items) }
+    {
+        self.prepared
+            .walked(alloc, self.bounds[i], self.bounds[i + 1])
+    }
+
+    /// Merges all parts together.
+    pub fn all(&self, alloc: Global) -> Result<Merged<'a>, Memory>
+        ensures keys { IfOk result (λ m. lent m.keys.items ≡ self.now.keys) }
+        ensures counts { IfOk result (λ m. m.counts.items ≡ self.now.counts) }
+        ensures len { IfOk result (λ m. length (lent m.keys.items) ≡ length m.counts.items) }
+    {
+        self.prepared
+            .walked(alloc, self.bounds[0], self.bounds[self.bounds.len() - 1])
+    }
 }
 
 /// Each of these workers' entries has a count.

@@ -1,14 +1,14 @@
 //! How often each key of a file occurs.
 
 ghost use Rattle.std.specs.Prelude.{◌≡◌, IfOk, List, drop, map};
-ghost use Rattle.key_index.specs.Keys.{Key, distinct, lent};
+ghost use Rattle.key_index.specs.Keys.{Key, distinct};
 ghost use Rattle.key_stream.specs.Counting.{occurrences};
 ghost use Rattle.key_stream.specs.Rounds.{entries_in};
 ghost use Rattle.key_stream.specs.Tally.{AreCountersOf, HaveCounted};
 
 use crate::counting::Counting;
 use crate::worker::Worker;
-use key_counts::{KeyCounts, Merged, Segment, are_counted, merge};
+use key_counts::{KeyCounts, Merging, Segment, are_counted};
 use lane_words::Memory;
 use std::alloc::Global;
 use std::hash::RandomState;
@@ -56,25 +56,25 @@ impl Counters {
         })
     }
 
-    /// The distinct keys of what was counted, in the order of their first appearance, and how often
-    /// each occurs. The first `skip` bytes of each key are left out. Keys are hashed by this
-    /// hasher, which a stranger must not know. Fails if an allocation or the random source failed,
-    /// or with more than `MOST_RECORDS` entries.
-    pub fn totals<R: Threads + Sync + RandomSource>(
+    /// What was counted, prepared to be merged: its distinct keys, in the order of their first
+    /// appearance, and how often each occurs. The first `skip` bytes of each key are left out. Keys
+    /// are hashed by this hasher, which a stranger must not know. Fails if an allocation or the
+    /// random source failed, or with more than `MOST_RECORDS` entries.
+    pub fn merging<R: Threads + Sync + RandomSource>(
         &self,
         rt: &R,
         alloc: Global,
         hasher: RandomState,
         skip: usize,
-    ) -> Result<Merged<'_>, Memory>
+    ) -> Result<Merging<'_>, Memory>
         requires { (keys : List Key) × HaveCounted keys self.now }
         ensures keys { (keys : List Key) → HaveCounted keys self.now
-            → IfOk result (λ merged. lent merged.keys.items ≡ distinct (map (drop skip) keys)) }
+            → IfOk result (λ merging. merging.keys ≡ distinct (map (drop skip) keys)) }
         ensures counts { (keys : List Key) → HaveCounted keys self.now
-            → IfOk result (λ merged. merged.counts.items ≡ occurrences (map (drop skip) keys)) }
+            → IfOk result (λ merging. merging.counts ≡ occurrences (map (drop skip) keys)) }
     {
         let workers = self.workers.as_slice();
         are_counted(workers);
-        merge(rt, alloc, hasher, workers, self.segments.as_slice(), skip)
+        Merging::new(rt, alloc, hasher, workers, self.segments.as_slice(), skip)
     }
 }

@@ -2,7 +2,7 @@
 use Rattle.std.proofs.Common.{◌≡◌, ◌∙◌, ◌+◌, ◌-◌, ◌≤◌, ◌<◌, ℕ, List, [], ◌∷◌, ◌++◌, length, take, drop, get_or, sym, ap, ap₂, refl, arith, append_assoc}
 use Rattle.std.specs.Prelude.{slice_range}
 use Rattle.std.proofs.Math.Seq.{take-add}
-use Rattle.std.proofs.lemmas.List.{append-nil, drop-drop, drop_more, length-drop, length-take}
+use Rattle.std.proofs.lemmas.List.{append-nil, drop-drop, drop_more, length-drop, length-take, take_all}
 use Rattle.report_rows.specs.CountRows.{count_row, count_rows, rows_between}
 
 range_parted : {X : Type 0} (xs : List X) (a m b : ℕ) → a ≤ m → m ≤ b → slice_range xs a b ≡ slice_range xs a m ++ slice_range xs m b
@@ -45,3 +45,8 @@ unfolding count_rows
 rows_none ks ns a =
     let none : a - a ≡ 0 = omega arith in
     ap₂ count_rows (ap (λ n. take n (drop a ks)) none) (ap (λ n. take n (drop a ns)) none)
+
+pub rows_all : (ks : List (List ℕ)) (ns : List ℕ) (n : ℕ) → length ks ≡ length ns → length ns ≤ n → rows_between ks ns 0 n ≡ count_rows ks ns
+rows_all ks ns n e le =
+    let none : n - 0 ≡ n = omega arith in
+    ap₂ count_rows (ap (λ m. take m ks) none ∙ take_all n ks (omega (arith, e, le))) (ap (λ m. take m ns) none ∙ take_all n ns le)

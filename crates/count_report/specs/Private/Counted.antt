@@ -10,7 +10,8 @@ use Rattle.key_stream.specs.declared.tally.Counters.{Counters}
 use Rattle.count_report.specs.CountReport.{report_of_count}
 use Rattle.key_index.specs.Keys.{Key, distinct}
 use Rattle.key_stream.specs.Counting.{occurrences}
-use Rattle.report_rows.specs.CountRows.{listed_rows}
+use Rattle.key_counts.specs.Merging.{Parted, part_at}
+use Rattle.report_rows.specs.CountRows.{count_rows, listed_rows}
 use Rattle.report_rows.specs.Rows.{total_row}
 
 -- how many bytes stand before each key: with topics the index of its topic
@@ -25,6 +26,11 @@ keys_read has_topics keys = map (drop (skipped has_topics)) keys
 abbrev pub text_of : Option ℕ → List Key → ℕ → List ℕ
 text_of top keys records =
     listed_rows top (distinct keys) (occurrences keys) ++ total_row records records
+
+-- the rows of the keys of a part
+abbrev pub IsTextOfPart : Parted → ℕ → Vec ℕ Global → Type 0
+IsTextOfPart m i text =
+    text.items ≡ count_rows (part_at m.ends i m.keys) (part_at m.ends i m.counts)
 
 -- texts are those of whatever keys counters have counted
 abbrev pub TellsCounters : Options → Counters → ℕ → Vec (Vec ℕ Global) Global → Type 0
