@@ -137,8 +137,8 @@ checking-refills delimiter wanted header counts has_topics false end first first
     }
 
 -- what is taken of a split text are bytes of it
-pub split-within : (delimiter : ℕ) (at_end : Bool) (text : List ℕ) (workers : ℕ) (split : Split) → IsSplitOf delimiter at_end text workers split → split.taken ≤ length text
-split-within delimiter at_end text workers split so =
+pub split-within : (delimiter : ℕ) (at_end : Bool) (text : List ℕ) (split : Split) → IsSplitOf delimiter at_end text split → split.taken ≤ length text
+split-within delimiter at_end text split so =
     let few = front-within delimiter (lent split.pieces.items) text split.count so.pieces in
     let is = so.taken in
     omega (arith, few, is)

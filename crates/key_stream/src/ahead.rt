@@ -16,8 +16,7 @@ use lane_words::Refusal;
 use std::alloc::Global;
 use std::thread::Threads;
 
-/// What is read while chunks are taken, by the thread of the last one. The code that takes them
-/// knows no more of it.
+/// What is read while chunks are taken. The code that takes them knows no more of it.
 pub trait ReadAhead {
     // It can be read.
     ghost can_read: { Self → Type 0 };

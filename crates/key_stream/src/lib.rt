@@ -2,8 +2,8 @@
 //!
 //! It promises:
 //! - `Window` has the bytes that were read and not yet taken, and `refill` reads on.
-//! - `Counting::split` splits a text into chunks, and `take_and_read` counts them, a thread for
-//!   each, or a short text in the calling thread: what is counted are the keys of the bytes that
+//! - `Counting::split` splits a text into chunks, and `take_and_read` counts them in several
+//!   threads, or a short text in the calling thread: what is counted are the keys of the bytes that
 //!   were taken, and a fault is that of the file's first bad record. It also reads on into the
 //!   next window.
 //! - `Counters::totals` returns the distinct keys in the order of their first appearance, and how

@@ -142,8 +142,9 @@ impl Counting {
         Ok(())
     }
 
-    /// Settles the turns of so many chunks, one chunk after another: each was taken in one turn.
-    /// Fails with the fault of the first bad record.
+    /// Settles the turns of these chunks, one chunk after another. Fails with the fault of the first
+    /// bad record, and with `Memory` if a chunk was not taken in one turn, as when a worker had no
+    /// memory for the turn.
     pub(crate) fn settle(
         &mut self,
         alloc: Global,
@@ -155,10 +156,8 @@ impl Counting {
         ensures workers { self.new.workers ≡ self.old.workers }
         ensures coded { self.new.coded ≡ self.old.coded }
         ensures marks { OnOk result (HasMarks self.new) }
-        ensures ok { OnOk result
-            (SettlesBy layout.now chunks.entry self.old self.new) }
-        ensures err { IfErr result
-            (FailsBy layout.now chunks.entry self.old) }
+        ensures ok { OnOk result (SettlesBy layout.now chunks.entry self.old self.new) }
+        ensures err { IfErr result (FailsBy layout.now chunks.entry self.old) }
     {
         let Ok(mut settled) = vec![in alloc; 0usize; self.workers.len()] else {
             return Err(Refusal::Memory);

@@ -148,7 +148,7 @@ fn text_by_stream<R: Threads + Sync + RandomSource>(
         return Err(Refusal::Memory);
     };
     let mut counting = Counting::new(alloc, hasher, stream.0, 1, false)?;
-    // With an estimate the thread of the last chunk reads, and else one of its own.
+    // With an estimate the calling thread reads, and else one of its own.
     let mut source = FromRead::expecting(file, stream.1 % 2);
     match count_file(rt, alloc, &mut source, options, stream.1, &mut counting)? {
         None => Ok(text_of_counting(rt, alloc, hasher, counting, options)?),

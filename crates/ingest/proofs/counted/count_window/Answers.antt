@@ -18,12 +18,12 @@ returns-in-Err-clause-err g c =
       | inr fault ↦
           elim fault.1 [
             | inl memory ↦ inr (fault.0, inl memory)
-            | inr bad ↦ inr (fault.0, inr (bad _ _ _ so))
+            | inr bad ↦ inr (fault.0, inr (bad _ _ so))
           ]
     ]
 
 pub slice_bounds-check_chunk-end : goal.slice_bounds-check_chunk-end
-slice_bounds-check_chunk-end g c = sym (length-take-le c.in_ok-split.split.taken c.text-text.result.now (split-within _ _ _ _ _ c.in_ok-split.ensures))
+slice_bounds-check_chunk-end g c = sym (length-take-le c.in_ok-split.split.taken c.text-text.result.now (split-within _ _ _ _ c.in_ok-split.ensures))
 
 pub returns-in-Err-check_chunk-clause-err : goal.returns-in-Err-check_chunk-clause-err
 returns-in-Err-check_chunk-clause-err g c =
@@ -35,7 +35,7 @@ returns-in-Err-check_chunk-clause-err g c =
           inr (
             c.in-Ok.ensures.no_failures,
             inr (counted-fault layout.delimiter (taking layout.wanted.now) layout.header c.args.windows.now.at_end c.args.windows.now.window c.in_ok-split.split.taken c.args.counting.now c.take_and_read.new.counting c.in-Err-check_chunk.fault
-                (c.in-Ok.ensures.ok _ _ _ so) (rw c.text-text.ensures at bad)),
+                (c.in-Ok.ensures.ok _ _ so) (rw c.text-text.ensures at bad)),
           )
     ]
 
@@ -50,7 +50,7 @@ returns-clause-ok g c =
       checks = record {
         counts = record {
           n = split.taken;
-          taken = c.in-Ok.ensures.ok _ _ _ so;
+          taken = c.in-Ok.ensures.ok _ _ so;
           rest = refl;
           all = elim c.if-at_end.branch [
             | then-at_end w ↦ λ is. (w.if-at_end.true, eqb_true _ _ (sym w.done-is ∙ is) ∙ ap length c.text-text.ensures)

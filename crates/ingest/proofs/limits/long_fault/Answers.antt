@@ -4,7 +4,7 @@ use Rattle.std.specs.List.{list_any}
 use Rattle.std.proofs.lemmas.List.{get_or-map, length-map}
 use Rattle.std.proofs.lemmas.List.Folds.{list_any_at, list_any_more}
 use Rattle.key_counts.specs.Counts.{Entries}
-use Rattle.key_stream.proofs.Taken.{counts_of}
+use Rattle.key_stream.proofs.Turns.{counts_of}
 use Rattle.key_stream.specs.Rounds.{entries_in}
 use Rattle.lane_words.specs.declared.Refusal.TheVariants as r
 use Rattle.ingest.specs.Private.Limits.{have_long_keys}

@@ -2,7 +2,7 @@ use Rattle.std.proofs.Common.{◌≡◌, ◌∙◌, ◌<◌, List, ap, arith, ge
 use Rattle.std.proofs.lemmas.List.{get_or-map, length-map, take_all}
 use Rattle.std.specs.List.{list_any, sum_by}
 use Rattle.key_counts.specs.Counts.{Entries, total_of}
-use Rattle.key_stream.proofs.Taken.{counts_of}
+use Rattle.key_stream.proofs.Turns.{counts_of}
 use Rattle.key_stream.specs.Rounds.{entries_in}
 use Rattle.ingest.specs.Limits.{records_taken}
 use Rattle.ingest.specs.Records.{AreOfTopics}
