@@ -240,8 +240,9 @@ impl Counting {
         })
     }
 
-    /// Splits a text into the chunks of a round; a short text is one chunk. `at_end` says that nothing comes behind it. Otherwise what is behind the last line
-    /// feed that is seen to end a record is left, and no byte is taken if there is none.
+    /// Splits a text into the chunks of a round; a short text is one chunk. `at_end` says that
+    /// nothing comes behind it. Otherwise what is behind the last line feed that is seen to end a
+    /// record is left, and no byte is taken if there is none.
     pub fn split<'t>(
         &self,
         alloc: Global,
