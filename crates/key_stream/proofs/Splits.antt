@@ -8,7 +8,7 @@ use Rattle.lane_words.specs.declared.Refusal.TheVariants as refusal
 use Rattle.csv_ingest.specs.KeyFile.{Taking}
 use Rattle.csv_ingest.specs.Private.Pieces.{bytes_of, lent}
 use Rattle.csv_ingest.specs.Rounds.{width_after_all}
-use Rattle.key_stream.specs.Counting.{HasFault, IsCounted, IsCountedOf, TakesFirst, TakesPieces}
+use Rattle.key_stream.specs.Counting.{IsCounted, IsCountedOf, TakesFirst}
 use Rattle.key_stream.specs.Layouts.{HasWidths}
 use Rattle.key_stream.specs.Rounds.{entries_in}
 use Rattle.key_stream.specs.Settling.{AreChunksOf, Fails, Settles}
@@ -18,7 +18,7 @@ use Rattle.key_stream.specs.declared.counting.Counting.{Counting}
 use Rattle.key_stream.specs.declared.counting.Split.{Split}
 use Rattle.key_stream.specs.declared.worker.Worker.{Worker}
 use Rattle.key_stream.proofs.Turns.{counts_of}
-use Rattle.key_stream.proofs.TakenFirst.{fault-in, takes-first, takes-none}
+use Rattle.key_stream.proofs.TakenFirst.{HasFault, TakesPieces, fault-in, takes-first, takes-none}
 
 pub split-takes : (delimiter : ℕ) (wanted : Taking) (header : Bool) (split : Split) (old new : Counting) (result : Result (Unit {0}) Refusal) → (split.count ≡ 0 → ⊥)
     → OnOk result (TakesPieces delimiter wanted header (lent split.pieces.items) split.count old new)

@@ -1,19 +1,35 @@
 -- The first pieces of a text are taken.
-use Rattle.std.proofs.Common.{◌≡◌, ◌∙◌, ◌<◌, ◌≤◌, ℕ, zero, suc, List, [], ◌++◌, Bool, true, false, Bor, length, take, drop, sym, ap, refl, subst, arith, inl, inr, length-append, take-append-drop, append-nil}
+use Rattle.std.proofs.Common.{◌≡◌, ◌∙◌, ◌<◌, ◌≤◌, ℕ, zero, suc, List, [], ◌++◌, Bool, true, false, Err, Bor, length, take, drop, sym, ap, refl, subst, arith, inl, inr, length-append, take-append-drop, append-nil}
 use Rattle.std.specs.Prelude.{◌⊎◌, ◌-◌, not}
 use mir.Val.{bool_byte}
 use Rattle.std.specs.List.{take-map}
 use Rattle.std.proofs.lemmas.List.{drop_at, length-map, take_at}
 use Rattle.std.proofs.lemmas.List.Concat.{flat_map-append}
 use Rattle.lane_words.specs.declared.Refusal.{Refusal}
-use Rattle.csv_ingest.specs.KeyFile.{Taking}
+use Rattle.csv_ingest.specs.KeyFile.{Taking, taken_of}
 use Rattle.csv_ingest.specs.Pieces.{ArePieces}
 use Rattle.csv_ingest.specs.Private.Pieces.{bytes_of, lent}
 use Rattle.csv_ingest.specs.Rounds.{IsSplitPoint}
 use Rattle.csv_ingest.proofs.Parts.{pieces-bytes}
 use Rattle.csv_ingest.proofs.Rounds.{split-front, split-pieces}
-use Rattle.key_stream.specs.Counting.{HasFault, HasFaultIn, IsCounted, TakesFirst, TakesPieces}
+use Rattle.key_stream.specs.Counting.{HasFaultIn, IsCounted, TakesFirst}
 use Rattle.key_stream.specs.declared.counting.Counting.{Counting}
+
+-- the first `count` of these pieces were taken: whatever was read before them, up to a split point
+abbrev pub TakesPieces : ℕ → Taking → Bool → List (List ℕ) → ℕ → Counting → Counting → Type 0
+TakesPieces delimiter wanted header pieces count old new =
+    (read text : List ℕ) → ArePieces delimiter text pieces → IsSplitPoint delimiter read text
+    → IsCounted delimiter wanted header read old
+    → IsCounted delimiter wanted header (read ++ bytes_of (take count pieces)) new
+
+-- one of the first `count` of these pieces has a fault: whatever was read before them, up to a
+-- split point, it is the fault of the file, which goes on or ends with the last piece
+abbrev pub HasFault : ℕ → Taking → Bool → List (List ℕ) → ℕ → Counting → Refusal → Type 0
+HasFault delimiter wanted header pieces count old fault =
+    (read text more : List ℕ) → ArePieces delimiter text pieces
+    → IsSplitPoint delimiter read (text ++ more) → (count < length pieces) ⊎ (more ≡ [])
+    → IsCounted delimiter wanted header read old
+    → taken_of delimiter wanted header (read ++ (text ++ more)) ≡ Err fault
 
 halves : (delimiter : ℕ) (pieces : List (List ℕ)) (text : List ℕ) (count : ℕ) → ArePieces delimiter text pieces → bytes_of (take count pieces) ++ bytes_of (drop count pieces) ≡ text
 halves delimiter pieces text count parts =

@@ -1,11 +1,9 @@
 -- What was counted of a file so far.
-use Rattle.std.specs.Prelude.{◌≡◌, ◌⊎◌, ◌<◌, ℕ, Bool, true, false, List, [], ◌++◌, count_by, take, drop, length, map, Err, Option, vec_len}
+use Rattle.std.specs.Prelude.{◌≡◌, ℕ, Bool, true, false, List, [], ◌++◌, count_by, take, drop, length, map, Err, Option, vec_len}
 use Rattle.std.specs.Str.{bytes_eq}
 use Rattle.std.specs.Io.KnownBytes.{IsAtEnd}
 use Rattle.lane_words.specs.declared.Refusal.{Refusal}
 use Rattle.csv_ingest.specs.KeyFile.{Taking, taken_of}
-use Rattle.csv_ingest.specs.Pieces.{ArePieces}
-use Rattle.csv_ingest.specs.Private.Pieces.{bytes_of}
 use Rattle.csv_ingest.specs.Rounds.{IsSplitPoint}
 use Rattle.key_index.specs.Keys.{Key, distinct}
 use Rattle.key_counts.specs.Counts.{Entries}
@@ -59,22 +57,6 @@ TakesFirst delimiter wanted header at_end text n old new =
 abbrev pub HasFaultIn : ℕ → Taking → Bool → Bool → List ℕ → Counting → Refusal → Type 0
 HasFaultIn delimiter wanted header at_end text old fault =
     (read more : List ℕ) → IsSplitPoint delimiter read (text ++ more) → (at_end ≡ true → more ≡ [])
-    → IsCounted delimiter wanted header read old
-    → taken_of delimiter wanted header (read ++ (text ++ more)) ≡ Err fault
-
--- the first `count` of these pieces were taken: whatever was read before them, up to a split point
-abbrev pub TakesPieces : ℕ → Taking → Bool → List (List ℕ) → ℕ → Counting → Counting → Type 0
-TakesPieces delimiter wanted header pieces count old new =
-    (read text : List ℕ) → ArePieces delimiter text pieces → IsSplitPoint delimiter read text
-    → IsCounted delimiter wanted header read old
-    → IsCounted delimiter wanted header (read ++ bytes_of (take count pieces)) new
-
--- one of the first `count` of these pieces has a fault: whatever was read before them, up to a
--- split point, it is the fault of the file, which goes on or ends with the last piece
-abbrev pub HasFault : ℕ → Taking → Bool → List (List ℕ) → ℕ → Counting → Refusal → Type 0
-HasFault delimiter wanted header pieces count old fault =
-    (read text more : List ℕ) → ArePieces delimiter text pieces
-    → IsSplitPoint delimiter read (text ++ more) → (count < length pieces) ⊎ (more ≡ [])
     → IsCounted delimiter wanted header read old
     → taken_of delimiter wanted header (read ++ (text ++ more)) ≡ Err fault
 

@@ -6,7 +6,6 @@ use Rattle.csv_ingest.specs.Private.Pieces.{lent}
 use Rattle.csv_ingest.specs.Private.Wanted.{taking}
 use Rattle.csv_ingest.specs.Rounds.{width_after_all}
 use Rattle.key_counts.specs.Counts.{Entries}
-use Rattle.key_stream.specs.Counting.{HasFault, TakesPieces}
 use Rattle.key_stream.specs.Settling.{Fails, Settles}
 use Rattle.key_stream.specs.Splits.{HasSplitFault, TakesSplit}
 use Rattle.key_stream.specs.Turns.{HasWorked, HaveWorked}
@@ -28,30 +27,24 @@ unfoldable pub WorksBy : Layout → Chunks → Worker → Worker → Type 0
 WorksBy layout chunks old new =
     (start : Entries)
     → HasWorked layout.delimiter (taking layout.wanted.now) layout.header chunks.widths.now
-    (lent chunks.texts.now)
-    start old
+    (lent chunks.texts.now) start old
     → HasWorked layout.delimiter (taking layout.wanted.now) layout.header chunks.widths.now
-    (lent chunks.texts.now)
-    start new
+    (lent chunks.texts.now) start new
 
 -- each of these workers did
-unfoldable pub WorkBy : Layout → Chunks → List Worker → List Worker
-    → Type 0
+unfoldable pub WorkBy : Layout → Chunks → List Worker → List Worker → Type 0
 WorkBy layout chunks olds news =
     (i : ℕ) (d : Worker) → i < length olds
     → WorksBy layout chunks (slice_index_or olds i d) (slice_index_or news i d)
 
 -- from these entries on each of these workers took chunks in its turns
-abbrev pub HaveWorkedBy : Layout → Chunks → List Entries
-    → List Worker → Type 0
+abbrev pub HaveWorkedBy : Layout → Chunks → List Entries → List Worker → Type 0
 HaveWorkedBy layout chunks starts workers =
     HaveWorked layout.delimiter (taking layout.wanted.now) layout.header chunks.widths.now
-    (lent chunks.texts.now)
-    starts workers
+    (lent chunks.texts.now) starts workers
 
 -- the turns in which workers took chunks are settled
-abbrev pub SettlesBy : Layout → Chunks → Counting → Counting
-    → Type 0
+abbrev pub SettlesBy : Layout → Chunks → Counting → Counting → Type 0
 SettlesBy layout chunks old new =
     Settles layout.delimiter (taking layout.wanted.now) layout.header chunks.widths.now
     (lent chunks.texts.now) old new
@@ -62,17 +55,7 @@ FailsBy layout chunks old fault =
     Fails layout.delimiter (taking layout.wanted.now) layout.header chunks.widths.now
     (lent chunks.texts.now) old fault
 
--- the first `count` of these pieces were taken
-abbrev pub TakesPiecesBy : Layout → List (List ℕ) → ℕ → Counting → Counting → Type 0
-TakesPiecesBy layout pieces count old new =
-    TakesPieces layout.delimiter (taking layout.wanted.now) layout.header pieces count old new
-
--- one of them has a fault
-abbrev pub HasFaultBy : Layout → List (List ℕ) → ℕ → Counting → Refusal → Type 0
-HasFaultBy layout pieces count old fault =
-    HasFault layout.delimiter (taking layout.wanted.now) layout.header pieces count old fault
-
--- the same of a split text
+-- a split text was taken
 abbrev pub TakesSplitBy : Layout → Split → Counting → Counting → Type 0
 TakesSplitBy layout split old new =
     TakesSplit layout.delimiter (taking layout.wanted.now) layout.header split old new

@@ -87,7 +87,8 @@ Settles delimiter wanted header widths chunks old new =
     → IsCounted delimiter wanted header (read ++ bytes_of (take (length chunks) pieces)) new
 
 -- one of the turns found a fault: memory was refused, or it is the fault of the file
-unfoldable pub Fails : ℕ → Taking → Bool → List (Option ℕ) → List (List ℕ) → Counting → Refusal → Type 0
+unfoldable pub Fails : ℕ → Taking → Bool → List (Option ℕ) → List (List ℕ) → Counting → Refusal
+    → Type 0
 Fails delimiter wanted header widths chunks old fault =
     (starts : List Entries) → length starts ≡ length old.workers.items
     → HaveWorked delimiter wanted header widths chunks starts old.workers.items
