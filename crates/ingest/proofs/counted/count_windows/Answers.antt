@@ -13,7 +13,7 @@ loop-init g c = record {
 }
 
 pub begin_check-requires-clause-topics : goal.begin_check-requires-clause-topics
-begin_check-requires-clause-topics g c = entries-topics _ _ _ _ _ _ _ c.requires.topics c.loop.invariant.checking.counted
+begin_check-requires-clause-topics g c = entries-topics _ _ _ _ _ _ c.loop.counting c.requires.topics c.loop.invariant.checking.counted
 
 pub returns-in-Err-clause-kind : goal.returns-in-Err-clause-kind
 returns-in-Err-clause-kind g c = read-count _ _ c.in-Err.fault c.in-Err.ensures.failures
