@@ -82,7 +82,7 @@ fn synced_cut(bytes: &[u8], to: usize, delimiter: u8) -> Option<usize>
 }
 
 /// How many bytes are looked at for a cut that does not depend on the bytes before.
-const WINDOW: usize = 65536;
+const WINDOW: usize = 1 << 14;
 
 /// Where bytes that follow the first ones of a file can be cut: before the first line feed that is
 /// seen to end a record. Behind fewer than three bytes there is no cut, since they may begin a byte

@@ -29,7 +29,7 @@ use std::thread::Threads;
 const DEFAULT_WORKERS: usize = 4;
 
 /// How many bytes of a file are read at once for each thread.
-const WINDOW: usize = 2 << 20;
+const WINDOW: usize = 1 << 20;
 
 /// The number of threads that read a file.
 pub fn workers_for(rt: &impl Threads) -> usize {
