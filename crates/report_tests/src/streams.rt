@@ -12,7 +12,7 @@ use byte_io::FromRead;
 use command_line::Options;
 use csv_ingest::{Wanted, read_keys};
 use ingest::{count_file, file_records, logs_of};
-use key_counts::Merged;
+use key_counts::{Merged, Merging};
 use key_stream::{Counters, Counting};
 use lane_words::{Memory, Refusal};
 use partition_log::{LogRead, Logs};
@@ -105,7 +105,27 @@ fn text_of_merged(alloc: Global, merged: &Merged<'_>) -> Result<Vec<u8>, Memory>
     Ok(text)
 }
 
-/// The keys of what counters counted and how often each occurs, in one text.
+/// The keys that counters counted and how often each occurs, in one text, merged part by part.
+fn text_of_parts(alloc: Global, merging: &Merging<'_>) -> Result<Vec<u8>, Memory> {
+    let mut text = Vec::new(alloc);
+    for i in 0..merging.parts() {
+        let merged = merging.part(alloc, i)?;
+        let part = text_of_merged(alloc, &merged)?;
+        text.extend_from_slice(part.as_slice())?;
+    }
+    Ok(text)
+}
+
+/// The same text of the whole, and whether that of the parts is equal.
+fn text_of_merging(alloc: Global, merging: &Merging<'_>) -> Result<(Vec<u8>, bool), Memory> {
+    let merged = merging.all(alloc)?;
+    let whole = text_of_merged(alloc, &merged)?;
+    let alike = text_of_parts(alloc, merging)? == whole;
+    Ok((whole, alike))
+}
+
+/// The keys of what counters counted and how often each occurs, in one text; nothing if the parts
+/// have other keys or counts than the whole.
 fn text_of_counters<R: Threads + Sync + RandomSource>(
     rt: &R,
     alloc: Global,
@@ -115,8 +135,13 @@ fn text_of_counters<R: Threads + Sync + RandomSource>(
 ) -> Result<Vec<u8>, Memory>
     requires { (keys : List Key) × HaveCounted keys counters.now }
 {
-    let merged = counters.totals(rt, alloc, hasher, skip)?;
-    text_of_merged(alloc, &merged)
+    let merging = counters.merging(rt, alloc, hasher, skip)?;
+    let (whole, alike) = text_of_merging(alloc, &merging)?;
+    if alike {
+        Ok(whole)
+    } else {
+        Ok(Vec::new(alloc))
+    }
 }
 
 /// The same of what was counted of a file.
