@@ -24,9 +24,6 @@ use std::marker::Model;
 use std::random::RandomSource;
 use std::thread::Threads;
 
-/// In how many parts, about, many entries are merged.
-const PARTS: usize = 64;
-
 /// The new entries of one chunk: those of a worker from code `from` on, below `to`.
 #[derive(Clone, Copy, Debug)]
 pub struct Segment {
@@ -180,13 +177,13 @@ impl<'a> Prepared<'a> {
         })
     }
 
-    /// Where the parts of so many entries begin, and after them where the last one ends. No key is
-    /// read.
-    fn bounds(&self, alloc: Global, entries: usize) -> Result<Vec<Start>, Memory>
+    /// Where parts of `LEAST_KEYS` keys or more begin, and after them where the last one ends. No key
+    /// is read. The lists of a part of this size stay in a processor's cache, and their memory is
+    /// used again.
+    fn bounds(&self, alloc: Global) -> Result<Vec<Start>, Memory>
         requires { IsPrepared self.now }
         ensures { IfOk result (λ bounds. AreBounds self.now bounds.items) }
     {
-        let least = (entries / PARTS).max(LEAST_KEYS);
         let mut bounds: Vec<Start> = Vec::new(alloc);
         let mut here = Start {
             segment: 0,
@@ -195,8 +192,8 @@ impl<'a> Prepared<'a> {
         };
         let mut begun = 0;
         for i in 0..self.segments.len() {
-            if i == 0 || here.entries.saturating_sub(begun) >= least {
-                begun = here.entries;
+            if i == 0 || here.keys().saturating_sub(begun) >= LEAST_KEYS {
+                begun = here.keys();
                 bounds.push(here)?;
             }
             here = here.after(&self.twins, &self.totals, self.segments[i]);
@@ -282,7 +279,7 @@ impl<'a> Merging<'a> {
         let entries = len_of(workers, segments)?;
         let place = place_of(hasher, entries);
         let prepared = Prepared::new(rt, alloc, place, workers, segments, skip)?;
-        let bounds = prepared.bounds(alloc, entries)?;
+        let bounds = prepared.bounds(alloc)?;
         Ok(Merging { prepared, bounds })
     }
 

@@ -82,8 +82,9 @@ pub fn gathered<'a>(
     ensures counts { IfOk result (λ shared. shared.counts.items
         ≡ kept_of (may_have_twin twins.now) skip workers.now segments.now) }
 {
-    let mut keys = Vec::new(alloc);
-    let mut counts = Vec::new(alloc);
+    let capacity = twins.len();
+    let mut keys = Vec::with_capacity(alloc, capacity)?;
+    let mut counts = Vec::with_capacity(alloc, capacity)?;
     for i in 0..segments.len() {
         let segment = segments[i];
         let entries = &workers[segment.worker];

@@ -26,6 +26,15 @@ pub struct Twins {
     flags: Vec<Vec<bool>>,
 }
 
+/// How many of these flags are set.
+fn flags_set(flags: &[bool]) -> usize {
+    let mut count: usize = 0;
+    for i in 0..flags.len() {
+        count = count.saturating_add(usize::from(flags[i]));
+    }
+    count
+}
+
 /// Whether a key of each of these hashes may have a twin.
 fn flags_of(alloc: Global, filter: &Filter, hashes: &[u64]) -> Result<Vec<bool>, Memory>
     ensures { IfOk result (λ flags. AreFlagsBy filter.now hashes.now flags.items) }
@@ -100,6 +109,15 @@ impl Twins {
             filter: Snapshot::of(&filter),
             flags,
         })
+    }
+
+    /// How many entries may have a twin. It only decides how much memory is reserved.
+    pub fn len(&self) -> usize {
+        let mut count: usize = 0;
+        for w in 0..self.flags.len() {
+            count = count.saturating_add(flags_set(&self.flags[w]));
+        }
+        count
     }
 
     /// Whether each of one worker's entries may have a twin.

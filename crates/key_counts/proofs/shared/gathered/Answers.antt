@@ -16,8 +16,8 @@ use Rattle.key_counts.proofs.shared.gathered.Goals as goal
 pub loop-i-init : goal.loop-i-init
 unfolding kept
 loop-i-init c = record {
-  keys = ap (map (λ key. key.now)) c.new-keys.ensures.items;
-  counts = c.new-counts.ensures.items;
+  keys = ap (map (λ key. key.now)) c.in_ok-keys.ensures.items;
+  counts = c.in_ok-counts.ensures.items;
 }
 
 pub gather-requires-clause-flags : goal.gather-requires-clause-flags

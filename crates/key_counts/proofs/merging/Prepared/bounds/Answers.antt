@@ -5,7 +5,7 @@ use Rattle.key_counts.specs.declared.merging.Segment.{Segment}
 use Rattle.key_counts.specs.declared.merging.Start.{Start}
 use Rattle.key_counts.proofs.Bounds.{bound-first, bound-next, bounds-end, starts-later, starts-none, starts-push}
 use Rattle.key_counts.proofs.merging.Prepared.bounds.Goals as goal
-use Rattle.key_counts.proofs.merging.Prepared.bounds.Goals.{then-i-eq0+in_ok-push, else-i-eq0+else-saturating_sub-least}
+use Rattle.key_counts.proofs.merging.Prepared.bounds.Goals.{then-i-eq0+in_ok-push, else-i-eq0+else-saturating_sub-ge-LEAST_KEYS}
 
 pub loop-i-init : goal.loop-i-init
 loop-i-init c =
@@ -29,7 +29,7 @@ loop-i-preserved c =
       | then-i-eq0+in_ok-push w ↦
           let grown : c.if-i-eq0.bounds.items ≡ before ++ here ∷ [] = ap (λ (b : Vec Start Global). b.items) w.bounds-is ∙ w.in_ok-push.ensures.items in
           (subst (AreStarts m i) (sym grown) (starts-push m i before here inv.starts inv.bound inv.at), omega (arith, ap length grown, length-append before (here ∷ [])))
-      | else-i-eq0+else-saturating_sub-least w ↦
+      | else-i-eq0+else-saturating_sub-ge-LEAST_KEYS w ↦
           let same : c.if-i-eq0.bounds.items ≡ before = ap (λ (b : Vec Start Global). b.items) w.bounds-is in
           let some : 0 < length before =
           elim (cases_eq (length before) 0) [
