@@ -10,7 +10,7 @@
 //! By a law, `limits_are`, each limit and default of an option has the number that the documents
 //! say.
 //!
-//! Tests: `report_tests/src/words.rt`, `report_tests/src/explanations.rt`, and the rows of
+//! Tests: `command_tests`, `report_tests/src/explanations.rt`, and the rows of
 //! `blackbox/`.
 #![tactic(auto)]
 

@@ -37,8 +37,6 @@ mod streams;
 mod traces;
 #[cfg(test)]
 mod two_topics;
-#[cfg(test)]
-mod words;
 
 use command_line::{Column, Options};
 use lane_words::MOST_PARTITIONS;

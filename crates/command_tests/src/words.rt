@@ -265,13 +265,18 @@ const CODES: [(&[&str], Option<u32>); 5] = [
     (&["explain", "+7"], Some(7)),
 ];
 
-/// Whether the arguments ask for an explanation of this code.
-fn asks_about(alloc: Global, words: &[&str], wanted: Option<u32>) -> bool {
-    let answer = read_words(alloc, words);
-    match &answer {
+/// Whether the answer is an explanation of this code.
+fn is_explanation(answer: &Result<Job, Usage>, wanted: Option<u32>) -> bool {
+    match answer {
         Ok(Job::Explain { code }) => *code == wanted,
         _ => false,
     }
+}
+
+/// Whether the arguments ask for an explanation of this code.
+fn asks_about(alloc: Global, words: &[&str], wanted: Option<u32>) -> bool {
+    let answer = read_words(alloc, words);
+    is_explanation(&answer, wanted)
 }
 
 #[test]
@@ -290,15 +295,20 @@ const PLACES: [(&[&str], bool, Option<u32>); 5] = [
     (&["place", "--given", "1", "f", "--keys"], true, Some(1)),
 ];
 
-/// Whether the arguments ask for this place of the file f.
-fn asks_where(alloc: Global, words: &[&str], keys: bool, given: Option<u32>) -> bool {
-    let answer = read_words(alloc, words);
-    match &answer {
+/// Whether the answer is this place of the file f.
+fn is_place(answer: &Result<Job, Usage>, keys: bool, given: Option<u32>) -> bool {
+    match answer {
         Ok(Job::Place { file, place, .. }) => {
             (*file, place.keys, place.given) == ("f", keys, given)
         }
         _ => false,
     }
+}
+
+/// Whether the arguments ask for this place of the file f.
+fn asks_where(alloc: Global, words: &[&str], keys: bool, given: Option<u32>) -> bool {
+    let answer = read_words(alloc, words);
+    is_place(&answer, keys, given)
 }
 
 #[test]
@@ -325,10 +335,9 @@ const CHECKS: [(&[&str], Check<'static>); 4] = [
     ),
 ];
 
-/// Whether the arguments ask for this check of the file f.
-fn asks_what(alloc: Global, words: &[&str], wanted: &Check<'_>) -> bool {
-    let answer = read_words(alloc, words);
-    match &answer {
+/// Whether the answer is this check of the file f.
+fn is_check(answer: &Result<Job, Usage>, wanted: &Check<'_>) -> bool {
+    match answer {
         Ok(
             Job::Check {
                 file,
@@ -339,6 +348,12 @@ fn asks_what(alloc: Global, words: &[&str], wanted: &Check<'_>) -> bool {
         ) => (*file, (*script, check.plan, check.most)) == ("f", *wanted),
         _ => false,
     }
+}
+
+/// Whether the arguments ask for this check of the file f.
+fn asks_what(alloc: Global, words: &[&str], wanted: &Check<'_>) -> bool {
+    let answer = read_words(alloc, words);
+    is_check(&answer, wanted)
 }
 
 #[test]
@@ -387,15 +402,25 @@ fn have_topics(options: &Options, topics: Topics, column: u32) -> bool {
     are_topics(options.topics.as_slice(), topics) && number(&options.topic_column) == column
 }
 
+/// The options of the answer, if it is a job that has any.
+fn options_in<'a>(answer: &'a Result<Job<'_>, Usage>) -> Option<&'a Options> {
+    options_of(answer.as_ref().ok()?)
+}
+
+/// Whether the answer is the error of an invalid list.
+fn are_bad_topics(answer: &Result<Job, Usage>) -> bool {
+    match answer {
+        Err(Usage::Bad(text)) => text.as_str() == "bad topics\n",
+        _ => false,
+    }
+}
+
 /// Whether the answer has these topics and this topic column, or, if there are none, is the error
 /// of an invalid list.
 fn has_topics(answer: &Result<Job, Usage>, wanted: Option<Topics>, column: u32) -> bool {
-    match (answer, wanted) {
-        (Ok(job), Some(topics)) => match options_of(job) {
-            Some(options) => have_topics(options, topics, column),
-            None => false,
-        },
-        (Err(Usage::Bad(text)), None) => text.as_str() == "bad topics\n",
+    match (options_in(answer), wanted) {
+        (Some(options), Some(topics)) => have_topics(options, topics, column),
+        (None, None) => are_bad_topics(answer),
         _ => false,
     }
 }
@@ -510,13 +535,7 @@ fn have_chosen(options: &Options, chosen: Chosen) -> bool {
 /// Whether the arguments ask for a job with these columns and this top.
 fn are_chosen(alloc: Global, words: &[&str], chosen: Chosen) -> bool {
     let answer = read_words(alloc, words);
-    match &answer {
-        Ok(job) => match options_of(job) {
-            Some(options) => have_chosen(options, chosen),
-            None => false,
-        },
-        Err(_) => false,
-    }
+    options_in(&answer).is_some_and(|options| have_chosen(options, chosen))
 }
 
 /// Arguments, with the names of their columns and their top.
@@ -584,10 +603,7 @@ const DELIMITERS: [(&[&str], u8); 9] = [
 /// The delimiter that arguments ask for, if they ask for a job that reads a file.
 fn delimiter_of(alloc: Global, words: &[&str]) -> Option<u8> {
     let answer = read_words(alloc, words);
-    match &answer {
-        Ok(job) => options_of(job).map(|options| options.delimiter),
-        Err(_) => None,
-    }
+    options_in(&answer).map(|options| options.delimiter)
 }
 
 #[test]
