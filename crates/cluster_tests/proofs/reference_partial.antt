@@ -1,2 +1,3 @@
+mod Runs
 pub mod Entries
 pub mod Listed

@@ -55,8 +55,7 @@ fn add_keys(store: &mut Store, keys: u32) -> Result<(), Memory> {
 
 /// A list of key numbers, counted.
 fn counted(alloc: Global, ids: &[u32]) -> Result<Partial, Memory> {
-    let list = Vec::from_slice(alloc, ids)?;
-    Partial::of(alloc, list)
+    Ok(Partial::of(Vec::from_slice(alloc, ids)?))
 }
 
 /// The answer to a commit of the first log from an offset on.

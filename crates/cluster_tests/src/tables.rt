@@ -15,8 +15,7 @@ use std::test::Fail;
 fn partial(alloc: Global, ids: &[u32]) -> Result<Partial, Memory>
     ensures { IfOk result (λ partial. partial ≡ ids.now) }
 {
-    let list = Vec::from_slice(alloc, ids)?;
-    Partial::of(alloc, list)
+    Ok(Partial::of(Vec::from_slice(alloc, ids)?))
 }
 
 /// One list in several orders.
@@ -118,7 +117,7 @@ const MANY_COUNTS: [(u32, u64); 5] = [(0, 3), (59_999, 3), (60_000, 2), (69_999,
 
 /// The length of that list, counted, and the first sample with another count.
 fn counted_of_many(alloc: Global, spacing: u32) -> Result<(usize, Option<(u32, u64)>), Memory> {
-    let counted = Partial::of(alloc, many(alloc, spacing)?)?;
+    let counted = Partial::of(many(alloc, spacing)?);
     Ok((
         counted.ids().len(),
         first_other(&counted, &MANY_COUNTS, spacing),

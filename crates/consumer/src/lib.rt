@@ -137,7 +137,7 @@ impl Consumer {
     {
         let (member, held) = self.pending(p)?;
         let ids = Vec::from_slice(self.alloc, logs.ids(p, held.base, held.position))?;
-        let partial = Partial::of(self.alloc, ids)?;
+        let partial = Partial::of(ids);
         Ok(Commit::new(member, self.generation, p, held.base, partial))
     }
 

@@ -282,7 +282,7 @@ type Terms = (u32, u32, u32, u32);
 /// The partial counts of the records of these keys.
 fn partial_of(alloc: Global, ids: &[u32]) -> Result<Partial, Refusal> {
     let ids = Vec::from_slice(alloc, ids)?;
-    Ok(Partial::of(alloc, ids)?)
+    Ok(Partial::of(ids))
 }
 
 /// A commit of these terms.

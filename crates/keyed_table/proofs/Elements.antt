@@ -4,9 +4,7 @@ use Rattle.std.specs.Prelude.{◌==◌}
 use Rattle.std.proofs.lemmas.Bool.Decides.{eqb_tells}
 use Rattle.std.proofs.lemmas.Grind.{common_steps}
 use Rattle.std.proofs.lemmas.List.{take_more}
-use Rattle.std.proofs.lemmas.List.Sorted.{sum_by-IsPermutation}
 use Rattle.std.proofs.lemmas.List.Sums.{sum_by-cons}
-use Rattle.std.specs.List.Sorted.{IsPermutation}
 use Rattle.keyed_table.specs.Counts.{plain}
 
 pub occurs-somewhere : (ids : List ℕ) (x : ℕ) → 0 < plain ids x → (i : ℕ) × (i < length ids) × (get_or ids i 0 ≡ x)
@@ -51,7 +49,3 @@ plain-next-own ids n lt = plain-next ids n (get_or ids n 0) lt ∙ ap (λ b. pla
 
 pub plain-next-other : (ids : List ℕ) (n : ℕ) → n < length ids → (x : ℕ) → x ≢ get_or ids n 0 → plain (take (n + 1) ids) x ≡ plain (take n ids) x
 plain-next-other ids n lt x ne = plain-next ids n x lt ∙ ap (λ b. plain (take n ids) x + cond b 1 0) (is_other x (get_or ids n 0) ne) ∙ omega arith
-
--- the order of a list doesn't matter to its counts
-pub plain-order : (ids sorted : List ℕ) (x : ℕ) → IsPermutation ids sorted → plain sorted x ≡ plain ids x
-plain-order ids sorted x h = sum_by-IsPermutation (λ y. cond (x == y) 1 0) ids sorted h

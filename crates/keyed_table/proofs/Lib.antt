@@ -1,8 +1,3 @@
-pub mod Added
 pub mod Counted
 pub mod Elements
-pub mod Numbered
 pub mod Raised
-pub mod Runs
-pub mod Tallied
-pub mod Touched

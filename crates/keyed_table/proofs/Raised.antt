@@ -35,7 +35,6 @@ unfolding raised
 cells-stay-valid keys cells ids valid have =
     let size = length-raised 0 cells ids in
     record {
-      whole = rw size valid.whole;
       within = rw size valid.within;
       unused = λ x past. elim (cases_lt x (length cells)) [
         | inl within ↦

@@ -1,4 +1,1 @@
-pub mod Blocks
-pub mod ByNumber
-pub mod Partial
 pub mod Table

@@ -4,16 +4,16 @@ ghost use Rattle.std.specs.Prelude.{◌≡◌, ◌≤◌, ◌<◌, ◌+◌, ◌-
 ghost use Rattle.keyed_table.specs.Counts.{Counters, HaveCounters, SumsFit, counter_of, raised};
 
 use crate::Partial;
-use crate::blocks::BLOCK;
-use crate::counting::add_each;
 use lane_words::Memory;
 use std::alloc::Global;
 use std::marker::Model;
 
+/// How many counters a table reserves at once.
+const RESERVED: usize = 8;
+
 /// A counter for each key number, from 0 on.
 ///
-/// Counters fill whole blocks of eight. Those past the last key are zero: they are the capacity for
-/// more keys.
+/// Those past the last key are zero: they are the capacity for more keys.
 #[derive(Debug, Drop)]
 pub struct Table {
     /// The number of keys.
@@ -49,7 +49,7 @@ impl Table {
         ensures { IfOk result (λ table. table.counts ≡ replicate keys 0) }
     {
         let keys = keys as usize;
-        let cells = vec![in alloc; 0; BLOCK * keys.div_ceil(BLOCK)]?;
+        let cells = vec![in alloc; 0; keys]?;
         Ok(Table { keys, cells })
     }
 
@@ -60,7 +60,7 @@ impl Table {
         ensures bound { self.old.capacity ≤ self.new.capacity }
     {
         if self.keys == self.cells.len() {
-            self.cells.extend_from_slice(&[0; BLOCK])?;
+            self.cells.extend_from_slice(&[0; RESERVED])?;
         }
         Ok(())
     }
@@ -74,14 +74,14 @@ impl Table {
         self.keys += 1;
     }
 
-    /// Adds to each counter how often its number is in the counted list. It allocates nothing.
+    /// Adds how often each number is in a partial count to its counter. It allocates nothing.
     pub fn merge(&mut self, partial: &Partial)
         requires numbers { HaveCounters self.old.counts partial.now }
         requires sums { SumsFit self.old.counts partial.now }
         ensures { self.new ≡ record
             { counts = raised self.old.counts partial.now; capacity = self.old.capacity } }
     {
-        partial.add_to(&mut self.cells);
+        self.add_list(partial.ids());
     }
 
     /// Adds how often each number occurs in a list to its counter. It allocates nothing.
@@ -114,5 +114,16 @@ impl Table {
         ensures { result.now ≡ self.now.counts }
     {
         &self.cells[..self.keys]
+    }
+}
+
+/// Raises each counter, by number, by how often its number occurs in the list.
+fn add_each(cells: &mut [u64], ids: &[u32])
+    requires numbers { HaveCounters cells.old ids.now }
+    requires sums { SumsFit cells.old ids.now }
+    ensures { cells.new ≡ raised cells.old ids.now }
+{
+    for at in 0..ids.len() {
+        cells[ids[at] as usize] += 1;
     }
 }

@@ -116,7 +116,7 @@ fn committed(cluster: &mut Cluster, commit: &Commit) -> Result<Reply, Refusal> {
 
 /// Key ids with their counts.
 fn partial_of(alloc: Global, ids: &[u32]) -> Result<Partial> {
-    Ok(Partial::of(alloc, Vec::from_slice(alloc, ids)?)?)
+    Ok(Partial::of(Vec::from_slice(alloc, ids)?))
 }
 
 /// Makes a call that is not a commit.

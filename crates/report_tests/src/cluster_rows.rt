@@ -112,7 +112,7 @@ fn has_closing(
 /// The commit of member 1 in generation 1 of records of these keys from the start of a log.
 fn sent(alloc: Global, partition: u32, ids: &[u32]) -> Result<Commit, Memory> {
     let ids = Vec::from_slice(alloc, ids)?;
-    let partial = Partial::of(alloc, ids)?;
+    let partial = Partial::of(ids);
     Ok(Commit::new(1, 1, partition, 0, partial))
 }
 

@@ -10,7 +10,7 @@ use Rattle.std.proofs.lemmas.Bool.Decides.{eqb_tells, nat_tests}
 use Rattle.std.proofs.lemmas.List.{take_all}
 use Rattle.std.proofs.lemmas.List.Sums.{fold-append}
 use Rattle.keyed_table.specs.Counts.{plain}
-use Rattle.keyed_table.proofs.Runs.{all_equal, none-before, run-other, run-same}
+use Rattle.cluster_tests.proofs.reference_partial.Runs.{all_equal, none-before, run-other, run-same}
 use Rattle.cluster_tests.specs.ReferencePartial.{counted, value_in}
 
 pub counted-some : (n : ℕ) → 0 < n → Some n ≡ counted n

@@ -378,6 +378,5 @@ fn are_below(numbers: &[u32], partitions: u32) -> bool
 fn partial_of(alloc: Global, keys: &[u32]) -> Result<Partial, Memory>
     ensures { IfOk result (λ partial. partial ≡ keys.now) }
 {
-    let ids = Vec::from_slice(alloc, keys)?;
-    Partial::of(alloc, ids)
+    Ok(Partial::of(Vec::from_slice(alloc, keys)?))
 }

@@ -3,7 +3,7 @@ use Rattle.std.specs.Ordering.{nat_cmp}
 use Rattle.std.specs.List.Sorted.{IsPermutation, IsSortedByKey}
 use Rattle.std.proofs.lemmas.List.Sorted.{IsNonDecreasingBy-from_sort}
 use Rattle.cluster_tests.specs.ReferencePartial.{counted}
-use Rattle.keyed_table.proofs.Elements.{plain-order}
+use Rattle.cluster_tests.proofs.reference_partial.Runs.{plain-order}
 use Rattle.cluster_tests.proofs.reference_partial.ReferencePartial.of.Goals as goal
 
 pub counts_of-requires : goal.counts_of-requires

@@ -1,31 +1,11 @@
-use Rattle.std.proofs.Common.{rules, ◌≡◌, ◌∙◌, sym, subst}
-use Rattle.std.proofs.lemmas.List.{with_items_is}
-use Rattle.keyed_table.specs.Counts.{Counters, HaveCounters, SumsFit, raised}
-use Rattle.keyed_table.proofs.Raised.{cells-fit, cells-have, cells-stay-valid, merged-view}
+use Rattle.std.proofs.Common.{rules}
 use Rattle.keyed_table.proofs.table.Table.merge.Goals as goal
 
-pub add_to-requires-clause-numbers : goal.add_to-requires-clause-numbers
-add_to-requires-clause-numbers c =
-    let have = subst (λ (v : Counters). HaveCounters v.counts c.args.partial.now) (sym c.self.view_is) c.requires.numbers in
-    rw c.deref_mut.ensures.value (cells-have c.self.inside.keys c.self.inside.cells.items c.args.partial.now have)
+pub add_list-requires-clause-numbers : goal.add_list-requires-clause-numbers
+add_list-requires-clause-numbers c = rw c.ids.ensures c.requires.numbers
 
-pub add_to-requires-clause-sums : goal.add_to-requires-clause-sums
-add_to-requires-clause-sums c =
-    let fit = subst (λ (v : Counters). SumsFit v.counts c.args.partial.now) (sym c.self.view_is) c.requires.sums in
-    rw c.deref_mut.ensures.value (cells-fit c.self.inside.keys c.self.inside.cells.items c.args.partial.now c.self.invariant fit)
-
-pub invariant_of-self : goal.invariant_of-self
-invariant_of-self c =
-    let cells = c.self.inside.cells.items in
-    let items = with_items_is c.self.inside.cells c.add_to.new.cells (c.add_to.auto.cells ∙ c.deref_mut.ensures.len) in
-    let is : c.add_to.new.cells ≡ raised cells c.args.partial.now = search rules in
-    let have = subst (λ (v : Counters). HaveCounters v.counts c.args.partial.now) (sym c.self.view_is) c.requires.numbers in
-    rw (items, is) (cells-stay-valid c.self.inside.keys cells c.args.partial.now c.self.invariant have)
+pub add_list-requires-clause-sums : goal.add_list-requires-clause-sums
+add_list-requires-clause-sums c = rw c.ids.ensures c.requires.sums
 
 pub returns : goal.returns
-returns c =
-    let cells = c.self.inside.cells.items in
-    let items = with_items_is c.self.inside.cells c.add_to.new.cells (c.add_to.auto.cells ∙ c.deref_mut.ensures.len) in
-    let is : c.add_to.new.cells ≡ raised cells c.args.partial.now = search rules in
-    let merged = merged-view c.self.inside.keys cells c.add_to.new.cells c.args.partial.now is in
-    rw (← c.self.view_is, items) merged
+returns c = search rules

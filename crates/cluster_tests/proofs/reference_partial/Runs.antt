@@ -1,9 +1,11 @@
 -- Runs of equal numbers in a sorted list.
-use Rattle.std.proofs.Common.{◌≡◌, ◌≢◌, ◌∙◌, ◌+◌, ◌<◌, ◌≤◌, ℕ, zero, suc, true, false, List, length, take, get_or-take, get_or, sym, ap, refl, arith, inl, inr}
+use Rattle.std.proofs.Common.{◌≡◌, ◌≢◌, ◌∙◌, ◌+◌, ◌<◌, ◌≤◌, ℕ, zero, suc, true, false, List, cond, length, take, get_or-take, get_or, sym, ap, refl, arith, inl, inr}
 use Rattle.std.specs.Prelude.{◌==◌}
 use Rattle.std.proofs.lemmas.Bool.{cases_lt}
 use Rattle.std.proofs.lemmas.Bool.Decides.{eqb_tells}
 use Rattle.std.proofs.lemmas.List.{length-take}
+use Rattle.std.proofs.lemmas.List.Sorted.{sum_by-IsPermutation}
+use Rattle.std.specs.List.Sorted.{IsPermutation}
 use Rattle.keyed_table.specs.Counts.{plain}
 use Rattle.keyed_table.proofs.Elements.{none-past, plain-next}
 
@@ -47,3 +49,7 @@ none-before ids start v le below =
     let before : i < start = omega (arith, lt, length-take start ids) in
     rw (get_or-take start ids i 0 before) (below i before))
     (omega arith)
+
+-- the order of a list doesn't matter to its counts
+pub plain-order : (ids sorted : List ℕ) (x : ℕ) → IsPermutation ids sorted → plain sorted x ≡ plain ids x
+plain-order ids sorted x h = sum_by-IsPermutation (λ y. cond (x == y) 1 0) ids sorted h

@@ -1,6 +1,6 @@
 use Rattle.std.proofs.Common.{arith}
 use Rattle.keyed_table.proofs.Counted.{counted-all, counted-more, counted-none, next-fits, next-within}
-use Rattle.keyed_table.proofs.counting.add_each.Goals as goal
+use Rattle.keyed_table.proofs.table.add_each.Goals as goal
 
 pub loop-at-init : goal.loop-at-init
 loop-at-init c = counted-none c.args.cells.now c.args.ids.now

@@ -1,5 +1,0 @@
-use Rattle.std.proofs.Common.{◌≡◌, ◌<◌, ℕ, get_or}
-use Rattle.keyed_table.proofs.blocks.are_zeros.Given as goal
-
-abbrev pub invariant-loop-count : goal.invariant-loop-count
-invariant-loop-count l = (i : ℕ) → i < l.count-index → get_or l.counts i 0 ≡ 0
