@@ -1,5 +1,6 @@
 //! Command lines, and the jobs that they ask for.
 
+use crate::number;
 use command_line::{
     AFTER_COUNT, AFTER_DRAW, AFTER_EXPLAIN, AFTER_KEYCOUNT, AFTER_PLACE, AFTER_REPLAY, AFTER_RUN,
     AFTER_TRACE, Column, Job, Options, Usage, read_words,
@@ -14,14 +15,6 @@ type Plain = (u32, u32, bool, u32);
 const PLAIN: Plain = (4, 1, false, 500);
 
 const FULL: Plain = (4096, 65535, true, 500);
-
-/// The number of a column; 0 if it has a name.
-fn number(column: &Column) -> u32 {
-    match column {
-        Column::Number(number) => *number,
-        Column::Named(_) => 0,
-    }
-}
 
 /// These values of options.
 fn plain(options: &Options) -> Plain {
