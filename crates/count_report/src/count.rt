@@ -21,7 +21,7 @@ use ingest::{count_file, window_for, workers_for};
 use key_counts::{KeyCounts, Merging};
 use key_stream::{Counters, Counting};
 use lane_words::{Memory, Refusal};
-use parallel::{LEAST_BYTES, LEAST_DROPS, collected, drop_each, no_results};
+use parallel::{LEAST_BYTES, LEAST_DROPS, collected, drop_each, for_each_mut, no_results};
 use report_rows::count_rows::{count_rows_text, with_total};
 use report_rows::top_rows::top_text;
 use std::alloc::Global;
@@ -53,8 +53,8 @@ fn make_parts<R: Threads + Sync>(
         AreResults (IsTextOfPart merging.now) parts found.items) }
 {
     let mut found = no_results(alloc, parts)?;
-    let threads = workers_for(rt).min(parts).max(1);
-    thread::for_each_mut(
+    let threads = workers_for(rt).min(parts);
+    for_each_mut(
         rt,
         &mut found,
         threads,
@@ -241,6 +241,13 @@ fn write_and_drop<R: Threads + Sync, K: Sink>(
     written
 }
 
+/// Drops texts, in parallel if there are several: one is not worth a thread.
+fn drop_texts<R: Threads + Sync>(rt: &R, texts: Vec<Vec<u8>>) {
+    if texts.len() > 1 {
+        drop_each(rt, texts);
+    }
+}
+
 /// Counts how often each key occurs in a CSV file, and writes a row for each key, in the order of
 /// first appearance, and a row of the totals. With `top`, only so many keys have rows: those with
 /// the most records, most first, and of equal counts the one that came first.
@@ -275,6 +282,6 @@ pub fn count_text<R: Threads + Sync + RandomSource, S: Source, K: Sink>(
 {
     let Report { texts, counters } = file_report(rt, alloc, file, options)?;
     let written = write_and_drop(rt, out, texts.as_slice(), counters);
-    drop_each(rt, texts);
+    drop_texts(rt, texts);
     written
 }

@@ -417,13 +417,13 @@ fn planned_over(alloc: Global, logs: Logs) -> Result<Planned, Refusal> {
 }
 
 /// The same, over a copy of the five records.
-fn planned(rt: &impl RandomSource, alloc: Global) -> Result<Planned, Refusal> {
+fn planned<R: Threads + Sync + RandomSource>(rt: &R, alloc: Global) -> Result<Planned, Refusal> {
     let logs = five_copied(rt, alloc)?;
     planned_over(alloc, logs)
 }
 
 /// A copy of the logs with the five records.
-fn five_copied(rt: &impl RandomSource, alloc: Global) -> Result<Logs, Refusal> {
+fn five_copied<R: Threads + Sync + RandomSource>(rt: &R, alloc: Global) -> Result<Logs, Refusal> {
     let logs = five_sealed(rt, alloc)?;
     Ok(logs.copy(rt, alloc)?)
 }
@@ -485,8 +485,8 @@ fn first_other(planned: &mut Planned, steps: &[Step]) -> Result<Option<usize>, R
 }
 
 /// The same, on the plan of two joins.
-fn first_other_of_two(
-    rt: &impl RandomSource,
+fn first_other_of_two<R: Threads + Sync + RandomSource>(
+    rt: &R,
     alloc: Global,
     steps: &[Step],
 ) -> Result<Option<usize>, Refusal> {

@@ -7,6 +7,7 @@ use partition_log::{LogRead, Logs, SealedLogs};
 use std::alloc::Global;
 use std::random::RandomSource;
 use std::test::Fail;
+use std::thread::Threads;
 
 // Wrappers without contracts: a test of many calls would otherwise be proved over the contracts of
 // all of them. And whoever owns logs makes few calls, since each `?` is proved together with the
@@ -101,8 +102,8 @@ fn takes_third(logs: &mut Logs) -> bool {
 }
 
 /// Whether a copy accepts a third record of the first key, and the original stays as it is.
-fn copy_takes(
-    rt: &impl RandomSource,
+fn copy_takes<R: Threads + Sync + RandomSource>(
+    rt: &R,
     sealed: &SealedLogs,
     alloc: Global,
     second: &[u8],
@@ -250,8 +251,8 @@ fn is_same_till_a_record(sealed: &SealedLogs, other: &mut Logs) -> bool {
 }
 
 /// Whether logs equal a copy of them until it has one more record.
-fn are_same_till_a_record(
-    rt: &impl RandomSource,
+fn are_same_till_a_record<R: Threads + Sync + RandomSource>(
+    rt: &R,
     alloc: Global,
     sealed: &SealedLogs,
 ) -> Result<bool, Refusal> {
@@ -327,8 +328,8 @@ fn many_taken(rt: &impl RandomSource, alloc: Global) -> Result<(bool, SealedLogs
 }
 
 /// Whether a copy has them.
-fn copy_has_many(
-    rt: &impl RandomSource,
+fn copy_has_many<R: Threads + Sync + RandomSource>(
+    rt: &R,
     alloc: Global,
     sealed: &SealedLogs,
 ) -> Result<bool, Refusal> {

@@ -1,1 +1,2 @@
 pub mod Iterated
+pub mod Slices

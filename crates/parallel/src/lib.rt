@@ -1,6 +1,8 @@
-//! Work on several threads: collecting results, dropping, and how much work is worth a thread.
+//! Work on several threads: calls, collecting results, dropping, and how much work is worth a
+//! thread.
 //!
 //! It promises:
+//! - `for_each_mut` calls a function with each of several items, once.
 //! - `no_results` has a place for the result of each task, and `collected` turns a list of results
 //!   into the list of their values, in order. It fails where one of them, or the new list, ran out
 //!   of memory.
@@ -13,9 +15,11 @@
 
 ghost use Rattle.std.specs.Prelude.{◌≡◌, Ok, IfOk, map, vec_len};
 
+mod each;
+
+pub use each::for_each_mut;
 use lane_words::Memory;
 use std::alloc::Global;
-use std::thread;
 use std::thread::Threads;
 
 /// Fewer keys than these are hashed, placed and appended by the calling thread alone. It is also
@@ -70,7 +74,7 @@ fn droppable<T: Drop>(items: Vec<T>) -> Result<Vec<Option<T>>, Memory> {
 pub fn drop_each<R: Threads + Sync, T: Send + Drop>(rt: &R, items: Vec<T>) {
     // If the list cannot be allocated, the items are dropped here.
     if let Ok(mut items) = droppable(items) {
-        thread::for_each_mut(
+        for_each_mut(
             rt,
             &mut items,
             DROP_THREADS,

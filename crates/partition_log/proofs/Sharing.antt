@@ -3,7 +3,7 @@ use Rattle.std.proofs.Common.{◌≡◌, ◌∙◌, ◌+◌, ◌*◌, ◌/◌, �
 use Rattle.std.specs.Fork.{slice_chunk}
 use Rattle.std.specs.Prelude.{◌==◌, if◌then◌else◌, All, IfOk, slice_range, slice_set}
 use Rattle.std.proofs.lemmas.Bool.Decides.{eqb_tells}
-use Rattle.std.proofs.lemmas.List.{append-nil, drop-drop, drop_more, ext_get_or, get_or-map, get_or-replicate, length-map, length-replicate, length-set, take-append-drop}
+use Rattle.std.proofs.lemmas.List.{append-nil, drop-drop, drop_more, ext_get_or, get_or-map, get_or-replicate, get_or_default, length-map, length-replicate, length-set, same_lists, take-append-drop}
 use Rattle.std.proofs.lemmas.List.Concat.{flat_map-append}
 use Rattle.std.specs.Global.{Global}
 use Rattle.std.proofs.lemmas.Grind.{div_ceil_times}
@@ -211,3 +211,21 @@ merged-parts partitions parts found logs is long h = record {
   as_many = length-map logs vec_items ∙ found-long found logs partitions is long;
   each = merged-one partitions parts found logs is long h;
 }
+
+-- copies of logs, each of which has the records of its log
+pub copied : {A B : Type 0} (logs : List (Vec ℕ B)) (found : List (Result (Vec ℕ A) Memory)) (copies : List (Vec ℕ A)) → found ≡ map Ok copies → length found ≡ length logs
+    → ((p : ℕ) (d : Result (Vec ℕ A) Memory) → p < length logs → IfOk (get_or found p d) (λ copy. copy.items ≡ get_or (map vec_items logs) p [])) → map vec_items copies ≡ map vec_items logs
+copied {A} {B} logs found copies is long h = same_lists (map vec_items copies) (map vec_items logs) (length-map copies vec_items ∙ many ∙ sym (length-map logs vec_items)) each
+  where
+    many : length copies ≡ length logs
+    many = found-long found copies (length logs) is long
+
+    each : (p : ℕ) (d : List ℕ) → p < length (map vec_items copies) → get_or (map vec_items copies) p d ≡ get_or (map vec_items logs) p d
+    each p d lt = each-of copies is many
+      where
+        each-of : (all : List (Vec ℕ A)) → found ≡ map Ok all → length all ≡ length logs → get_or (map vec_items copies) p d ≡ get_or (map vec_items logs) p d
+        each-of [] so short = absurd (omega (arith, lt, length-map copies vec_items, many, short))
+        each-of (first ∷ rest) so same =
+            let in_logs : p < length logs = omega (arith, lt, length-map copies vec_items, many) in
+            let own = found-each (λ i copy. copy.items ≡ get_or (map vec_items logs) i []) found copies (length logs) is long h p first in_logs in
+            get_or-map vec_items copies p first d (omega (arith, lt, length-map copies vec_items)) ∙ own ∙ get_or_default (map vec_items logs) p [] d (omega (arith, in_logs, length-map logs vec_items))

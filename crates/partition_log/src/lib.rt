@@ -19,6 +19,7 @@ ghost use Rattle.partition_log.specs.Keys.{key_at, of_first, with_key};
 ghost use Rattle.partition_log.specs.Private.Appends.{log_answer, with_id, with_id_at};
 ghost use Rattle.partition_log.specs.Logs.{AreCounts, AreLogsOf, IsOfTopic, IsPlaceOf, IsValidLogs, PartitionLogs, answer_at, append_answer, log_at, place_in, with_record, with_record_at};
 
+mod copies;
 mod laws;
 mod places;
 mod sealed;
@@ -26,6 +27,7 @@ mod shares;
 mod tables;
 mod taken;
 
+use crate::copies::copy_logs;
 use key_index::KeyDictionary;
 use lane_words::{LONGEST_KEY, MOST_PARTITIONS, MOST_RECORDS, Memory, Refusal};
 pub use laws::each_record_is_in_one_log;
@@ -273,12 +275,12 @@ impl Logs {
     }
 
     /// An equal copy, with hash seeds of its own.
-    fn copy(&self, rt: &impl RandomSource, alloc: Global) -> Result<Logs, Memory>
+    fn copy<R: Threads + Sync + RandomSource>(&self, rt: &R, alloc: Global) -> Result<Logs, Memory>
         ensures value { IfOk result (λ logs. logs ≡ self.now) }
         ensures valid { IfOk result IsValidLogs }
     {
         let keys = self.keys.copy(rt)?;
-        let logs = copy_logs(alloc, &self.logs)?;
+        let logs = copy_logs(rt, alloc, self.logs.as_slice())?;
         Ok(Logs {
             partitions: self.partitions,
             keys,
@@ -296,17 +298,6 @@ fn empty_logs(alloc: Global, count: usize) -> Result<Vec<Vec<u32>>, Memory>
         logs.push(Vec::new(alloc))?;
     }
     Ok(logs)
-}
-
-/// A copy of these logs.
-fn copy_logs(alloc: Global, logs: &Vec<Vec<u32>>) -> Result<Vec<Vec<u32>>, Memory>
-    ensures { IfOk result (λ copy. map vec_items copy.items ≡ map vec_items logs.now.items) }
-{
-    let mut copy = Vec::with_capacity(alloc, logs.len())?;
-    for log in logs {
-        copy.push(Vec::from_slice(alloc, log.as_slice())?)?;
-    }
-    Ok(copy)
 }
 
 /// Whether logs have the same key numbers.

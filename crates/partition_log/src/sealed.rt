@@ -8,6 +8,7 @@ use lane_words::Memory;
 use std::alloc::Global;
 use std::marker::Model;
 use std::random::RandomSource;
+use std::thread::Threads;
 
 /// Read-only logs: nothing is appended to them any more, so any number of threads may read them.
 #[derive(Drop)]
@@ -51,7 +52,11 @@ impl LogRead for SealedLogs {
 impl SealedLogs {
     /// An equal copy with the same key numbers, to which records can be appended. Fails, as
     /// `Logs::new` does, if memory runs out or the random source fails.
-    pub fn copy(&self, rt: &impl RandomSource, alloc: Global) -> Result<Logs, Memory>
+    pub fn copy<R: Threads + Sync + RandomSource>(
+        &self,
+        rt: &R,
+        alloc: Global,
+    ) -> Result<Logs, Memory>
         ensures value { IfOk result (λ logs. logs ≡ self.now) }
         ensures valid { IfOk result IsValidLogs }
     {

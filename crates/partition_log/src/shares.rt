@@ -10,7 +10,7 @@ ghost use Rattle.partition_log.specs.Private.Shares.{AreFilled, AreMerged, AreTa
 use crate::taken::TakenRecords;
 use key_counts::{KeyCounts, Segment};
 use lane_words::Memory;
-use parallel::{LEAST_KEYS, collected, no_results};
+use parallel::{LEAST_KEYS, collected, for_each_mut, no_results};
 use std::alloc::Global;
 use std::thread;
 use std::thread::Threads;
@@ -216,10 +216,10 @@ fn merge_parallel<R: Threads + Sync>(
         (map (λ part. slice_index_or (map vec_items part.items) p []) parts.now))) }
 {
     let mut found = no_results(alloc, partitions)?;
-    thread::for_each_mut(
+    for_each_mut(
         rt,
         &mut found,
-        parts.len().max(1),
+        parts.len(),
         &|p, own: &mut Result<Vec<u32>, Memory>| {
             *own = merged_log(alloc, parts, p);
         },
@@ -252,6 +252,16 @@ fn records_in(chunks: &[Segment]) -> usize {
     records
 }
 
+/// How many processors there are: one if it can't be told.
+pub fn processors(rt: &impl Threads) -> usize
+    ensures nonempty { 1 ≤ result }
+{
+    match thread::available_parallelism(rt) {
+        Ok(count) => count.get(),
+        Err(_) => 1,
+    }
+}
+
 /// How many chunks a share has: as many as give each processor one share. Few records are one
 /// share, and so are all where it can't be told how many processors there are.
 fn share_size(rt: &impl Threads, chunks: &[Segment]) -> usize
@@ -260,11 +270,7 @@ fn share_size(rt: &impl Threads, chunks: &[Segment]) -> usize
     if records_in(chunks) < LEAST_KEYS {
         return chunks.len().max(1);
     }
-    let processors = match thread::available_parallelism(rt) {
-        Ok(count) => count.get(),
-        Err(_) => 1,
-    };
-    chunks.len().div_ceil(processors).max(1)
+    chunks.len().div_ceil(processors(rt)).max(1)
 }
 
 /// The logs of the records of these chunks, each record in the log of its entry's partition, with
