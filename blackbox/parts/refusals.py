@@ -44,7 +44,7 @@ class Subject(NamedTuple):
     without: frozenset[str] = frozenset({"thread"})
     # The kinds that it can do without.
     spared: frozenset[str] = frozenset({"malloc"})
-    # How many of its first threads it can do without: one reads on from a pipe, one helps to number the keys.
+    # How many of its first threads it can do without: one helps to number the keys.
     helpers: int = 0
     stdin: bytes = b""
 
@@ -68,7 +68,7 @@ SUBJECTS = [
     Subject("a count of long keys", "count f --partitions 4096", {"f": lines_of(LONG_KEYS)}, done(counts_of(LONG_KEYS))),
     Subject("a count of many keys", "count f", {"f": lines_of(MANY_KEYS)}, done(counts_of(MANY_KEYS))),
     Subject("a count from a pipe that fills the first window", "count -", {}, done(counts_of(MANY_KEYS * 8)),
-            frozenset({"open"}), helpers=1, stdin=lines_of(MANY_KEYS * 8)),
+            frozenset({"open", "thread"}), stdin=lines_of(MANY_KEYS * 8)),
     Subject("a count of blocks", "count f", {"f": b"".join(key + b",more\n" for key in KEYS_IN_BLOCKS)},
             done(counts_of(KEYS_IN_BLOCKS)), frozenset(), frozenset({"malloc", "thread"})),
     Subject("a count of a bad record", "count f --header --column 2", {"f": QUOTED + b"7,8,9\n"},

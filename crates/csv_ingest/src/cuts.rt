@@ -1,6 +1,6 @@
 //! Where a file can be cut.
 
-ghost use Rattle.std.specs.Prelude.{◌≡◌, ◌≤◌, ◌<◌, ◌++◌, false, length, slice_index, take, IfOk, IfSome};
+ghost use Rattle.std.specs.Prelude.{◌≡◌, ◌≢◌, ◌≤◌, ◌<◌, ◌++◌, All, false, length, slice_index, take, true, IfOk, IfSome};
 ghost use Rattle.csv.specs.Reading.{is_bom, strip_bom};
 ghost use Rattle.csv_ingest.specs.Pieces.{ArePieces, bom_length};
 ghost use Rattle.csv_ingest.specs.Private.Cuts.{AlwaysEndsRecord};
@@ -86,9 +86,10 @@ const WINDOW: usize = 1 << 14;
 
 /// Where bytes that follow the first ones of a file can be cut: before the first line feed that is
 /// seen to end a record. Behind fewer than three bytes there is no cut, since they may begin a byte
-/// order mark.
-pub fn cut_behind(before: &[u8], next: &[u8], delimiter: u8) -> Option<usize>
-    requires { is_line_end delimiter ≡ false }
+/// order mark. `plain` says that there is no double quote among the first ones.
+pub fn cut_behind(before: &[u8], next: &[u8], delimiter: u8, plain: bool) -> Option<usize>
+    requires delimiter { is_line_end delimiter ≡ false }
+    requires plain { plain ≡ true → All (λ c. c ≢ 34) before.now }
     ensures range { IfSome result (λ cut. cut < length next.now) }
     ensures cut { IfSome result (λ cut. (slice_index next.now cut ≡ 10)
         × IsCut delimiter (strip_bom (before.now ++ take cut next.now))) }
@@ -100,28 +101,42 @@ pub fn cut_behind(before: &[u8], next: &[u8], delimiter: u8) -> Option<usize>
         return Some(cut);
     }
     let start = mark_length(before);
-    let stand = stand_behind(Stand::Record, &before[start..], delimiter);
+    let stand = stand_behind(Stand::Record, &before[start..], delimiter, plain);
     open_cut(next, stand, delimiter)
 }
 
-/// A file in at most `pieces` pieces; 0 are one. All but the last have about `step` bytes, or as
-/// many as leave about `left` to it.
+/// In how many pieces a file is cut, and how long these are.
+#[derive(Clone, Copy)]
+pub struct Sizes {
+    /// The largest number of pieces; 0 is one.
+    pub most: usize,
+    /// About how many bytes a piece has that is not the last.
+    pub step: usize,
+    /// About how many bytes the last piece has at least.
+    pub left: usize,
+}
+
+/// A file in pieces of these sizes. `plain` says that there is no double quote in it: otherwise it is
+/// read from its start, since what stands in quotes does not end a record.
 pub fn pieces_of(
     alloc: Global,
     file: &[u8],
     delimiter: u8,
-    pieces: usize,
-    step: usize,
-    left: usize,
+    sizes: Sizes,
+    plain: bool,
 ) -> Result<Vec<&[u8]>, Memory>
-    requires { is_line_end delimiter ≡ false }
+    requires delimiter { is_line_end delimiter ≡ false }
+    requires plain { plain ≡ true → All (λ c. c ≢ 34) file.now }
     ensures { IfOk result (λ found. ArePieces delimiter file.now (lent found.items)) }
 {
     let mut found = Vec::new(alloc);
     let mut rest = file;
-    for _piece in 1..pieces {
-        let aim = step.max(MARK).min(rest.len().saturating_sub(left));
-        let Some(more) = cut_behind(&rest[..aim], &rest[aim..], delimiter) else {
+    for _piece in 1..sizes.most {
+        let aim = sizes
+            .step
+            .max(MARK)
+            .min(rest.len().saturating_sub(sizes.left));
+        let Some(more) = cut_behind(&rest[..aim], &rest[aim..], delimiter, plain) else {
             break;
         };
         let cut = aim + more;

@@ -11,7 +11,7 @@ ghost use Rattle.csv_ingest.specs.Private.Header.{BeginsWith};
 ghost use Rattle.csv_ingest.specs.Stand.{is_line_end};
 ghost use Rattle.lane_words.specs.Answers.{Answers};
 
-use crate::cuts::pieces_of;
+use crate::cuts::{Sizes, pieces_of};
 use crate::piece::first_width;
 use crate::records::{next_record, records_of};
 use csv::ByteRecord;
@@ -92,7 +92,12 @@ pub fn has_header(alloc: Global, text: &[u8], delimiter: u8) -> Result<bool, Mem
     requires { is_line_end delimiter ≡ false }
     ensures { IfOk result (λ has. has ≡ true → HasHeader delimiter text.now) }
 {
-    let pieces = pieces_of(alloc, text, delimiter, 2, text.len() / 2, 0)?;
+    let halves = Sizes {
+        most: 2,
+        step: text.len() / 2,
+        left: 0,
+    };
+    let pieces = pieces_of(alloc, text, delimiter, halves, false)?;
     if pieces.len() < 2 {
         return Ok(false);
     }

@@ -31,7 +31,7 @@ mod wanted;
 mod whole;
 
 pub use chunk::{take_chunk, width_behind};
-pub use cuts::{mark_length, pieces_of};
+pub use cuts::{Sizes, mark_length, pieces_of};
 pub use header::{column_named_in, field_named, has_header};
 pub use lack::Lack;
 pub use laws::{
@@ -42,6 +42,6 @@ pub use laws::{
 };
 pub use records::{next_record, records_of};
 pub use sink::KeySink;
-pub use stand::{Stand, is_line_end};
+pub use stand::{Stand, is_line_end, is_plain};
 pub use wanted::Wanted;
 pub use whole::read_keys;

@@ -93,6 +93,14 @@ impl Stand {
     }
 }
 
+/// Whether there is no double quote in a text.
+pub fn is_plain(text: &[u8]) -> bool
+    ensures if_true { result ≡ true → All (λ c. c ≢ 34) text.now }
+    ensures if_false { result ≡ false → All (λ c. c ≢ 34) text.now → ⊥ }
+{
+    memchr(b'"', text).is_none()
+}
+
 /// Where a reader stands behind bytes among which there is no double quote.
 fn plain_behind(from: Stand, bytes: &[u8], delimiter: u8) -> Stand
     requires delimiter { is_line_end delimiter ≡ false }
@@ -105,13 +113,17 @@ fn plain_behind(from: Stand, bytes: &[u8], delimiter: u8) -> Stand
     after_unquoted(bytes[bytes.len() - 1], delimiter)
 }
 
-/// Where a reader stands behind these bytes.
+/// Where a reader stands behind these bytes. `plain` says that there is no double quote among them.
 ///
 /// Between two double quotes only the last byte matters, so it goes from quote to quote.
-pub fn stand_behind(from: Stand, bytes: &[u8], delimiter: u8) -> Stand
-    requires { is_line_end delimiter ≡ false }
+pub fn stand_behind(from: Stand, bytes: &[u8], delimiter: u8, plain: bool) -> Stand
+    requires delimiter { is_line_end delimiter ≡ false }
+    requires plain { plain ≡ true → All (λ c. c ≢ 34) bytes.now }
     ensures { result ≡ stand_after delimiter from bytes.now }
 {
+    if plain {
+        return plain_behind(from, bytes, delimiter);
+    }
     let mut stand = from;
     let mut rest = bytes;
     'runs: while let Some(at) = memchr(b'"', rest) {

@@ -144,7 +144,8 @@ fn count_window<R: Threads + Sync, S: Source>(
         at_end,
     } = windows;
     let text = window.text();
-    let split = counting.split(alloc, text, *at_end, layout.delimiter)?;
+    let plain = window.is_plain();
+    let split = counting.split(alloc, text, *at_end, layout.delimiter, plain)?;
     let end = match take_and_read(rt, alloc, counting, &split, layout, source, spare) {
         Ok(end) => end,
         Err(fault) => return Err(fault),

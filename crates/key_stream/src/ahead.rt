@@ -24,9 +24,6 @@ pub trait ReadAhead {
     // It was read, or was refused.
     ghost has_read: { Self → Self → Type 0 };
 
-    /// Whether the read may wait for others, as on a pipe. It only decides which thread reads.
-    fn may_wait(&self) -> bool;
-
     /// Reads it.
     fn read(&mut self)
         requires { can_read self.old }
@@ -55,10 +52,6 @@ impl<S: Source> ReadAhead for Ahead<'_, S> {
     ghost can_read = { λ ahead. CanStillFail (S.failures ahead.source.now) };
 
     ghost has_read = { HasReadAhead S.left S.failures };
-
-    fn may_wait(&self) -> bool {
-        !self.at_end && self.source.expected() == 0
-    }
 
     fn read(&mut self) {
         self.read = refill(self.source, self.window, self.at_end);

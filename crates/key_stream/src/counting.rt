@@ -1,6 +1,6 @@
 //! What was counted of a file so far.
 
-ghost use Rattle.std.specs.Prelude.{◌≡◌, ◌⊎◌, ◌≤◌, ◌<◌, ◌^◌, [], Bool, false, IfErr, IfOk, List, ℕ, OnOk, drop, length, replicate, slice_index_or, vec_len};
+ghost use Rattle.std.specs.Prelude.{◌≡◌, ◌⊎◌, ◌≤◌, ◌<◌, ◌^◌, ◌≢◌, [], All, Bool, false, IfErr, IfOk, List, ℕ, OnOk, drop, length, replicate, slice_index_or, true, vec_len};
 ghost use Rattle.csv_ingest.specs.KeyFile.{Taking};
 ghost use Rattle.csv_ingest.specs.Pieces.{ArePieces};
 ghost use Rattle.csv_ingest.specs.Stand.{is_line_end};
@@ -16,8 +16,8 @@ ghost use Rattle.lane_words.specs.declared.Refusal.TheVariants as refusal;
 
 use crate::ahead::ReadAhead;
 use crate::round::{Round, widths_of};
-use crate::worker::{Chunks, Layout, Worker, work_parallel};
-use csv_ingest::pieces_of;
+use crate::worker::{Chunks, Layout, Worker, work_and_read};
+use csv_ingest::{Sizes, pieces_of};
 use key_counts::{KeyCounter, Segment};
 use lane_words::{Memory, Refusal};
 use std::alloc::Global;
@@ -29,7 +29,7 @@ use std::thread::Threads;
 const LEFT: usize = 1 << 16;
 
 /// How many chunks a window has for each thread. With fewer, threads wait longer for the last one.
-const CHUNKS_PER_THREAD: usize = 6;
+const CHUNKS_PER_THREAD: usize = 12;
 
 /// What was counted of a file so far.
 #[derive(Drop)]
@@ -128,15 +128,18 @@ fn chunks_for(threads: usize) -> usize {
 }
 
 /// A text in so many chunks at most, of one length. If more of the file follows, one piece comes
-/// behind them: some `LEFT` bytes, or as many as a chunk if no record ends in these.
+/// behind them: some `LEFT` bytes, or as many as a chunk if no record ends in these. `plain` says
+/// that there is no double quote in the text.
 fn pieces_in<'t>(
     alloc: Global,
     text: &'t [u8],
     delimiter: u8,
     chunks: usize,
     at_end: bool,
+    plain: bool,
 ) -> Result<Vec<&'t [u8]>, Memory>
-    requires { is_line_end delimiter ≡ false }
+    requires delimiter { is_line_end delimiter ≡ false }
+    requires plain { plain ≡ true → All (λ c. c ≢ 34) text.now }
     ensures { IfOk result (λ found. ArePieces delimiter text.now (lent found.items)) }
 {
     let most = chunks.saturating_add(usize::from(!at_end)).max(1);
@@ -146,11 +149,16 @@ fn pieces_in<'t>(
         LEFT.min(text.len() / most)
     };
     let step = (text.len() - left) / chunks.max(1);
-    let pieces = pieces_of(alloc, text, delimiter, most, step, left)?;
+    let pieces = pieces_of(alloc, text, delimiter, Sizes { most, step, left }, plain)?;
     if at_end || pieces.len() > 1 {
         return Ok(pieces);
     }
-    pieces_of(alloc, text, delimiter, most, text.len() / most, 0)
+    let sizes = Sizes {
+        most,
+        step: text.len() / most,
+        left: 0,
+    };
+    pieces_of(alloc, text, delimiter, sizes, plain)
 }
 
 /// Forgets the turns of the last round.
@@ -184,7 +192,7 @@ fn work_first<R: Threads + Sync, A: ReadAhead>(
 {
     let next = AtomicUsize::new(0);
     let first = &mut workers[..threads];
-    work_parallel(rt, alloc, first, chunks, &next, layout, ahead);
+    work_and_read(rt, alloc, first, chunks, &next, layout, ahead);
 }
 
 /// Workers take chunks in so many threads, and the calling one reads ahead.
@@ -242,21 +250,25 @@ impl Counting {
 
     /// Splits a text into the chunks of a round; a short text is one chunk. `at_end` says that
     /// nothing comes behind it. Otherwise what is behind the last line feed that is seen to end a
-    /// record is left, and no byte is taken if there is none.
+    /// record is left, and no byte is taken if there is none. `plain` says that there is no double
+    /// quote in the text.
     pub fn split<'t>(
         &self,
         alloc: Global,
         text: &'t [u8],
         at_end: bool,
         delimiter: u8,
+        plain: bool,
     ) -> Result<Split<'t>, Memory>
-        requires { is_line_end delimiter ≡ false }
+        requires delimiter { is_line_end delimiter ≡ false }
+        requires plain { plain ≡ true → All (λ c. c ≢ 34) text.now }
         ensures { IfOk result
             (IsSplitOf delimiter at_end text.now) }
     {
         let behind = usize::from(!at_end);
         let threads = threads_for(self.workers.len(), text.len(), self.least);
-        let pieces = pieces_in(alloc, text, delimiter, chunks_for(threads), at_end)?;
+        let chunks = chunks_for(threads);
+        let pieces = pieces_in(alloc, text, delimiter, chunks, at_end, plain)?;
         let count = pieces.len().saturating_sub(behind);
         let taken = length_of(&pieces[..count]);
         Ok(Split {

@@ -1,11 +1,12 @@
 //! The part of a file that is in memory.
 
-ghost use Rattle.std.specs.Prelude.{◌≡◌, ◌≤◌, ◌+◌, ◌<◌, [], true, IfOk, IfErr, OnOk, length, take};
+ghost use Rattle.std.specs.Prelude.{◌≡◌, ◌≢◌, ◌≤◌, ◌+◌, ◌<◌, [], All, true, IfOk, IfErr, OnOk, length, take};
 ghost use Rattle.std.specs.Io.KnownBytes.{IsAtEnd};
 ghost use Rattle.byte_io.specs.Devices.{CanStillFail, IsReadFault};
 ghost use Rattle.key_stream.specs.Reading.{Fills};
 
 use byte_io::{Source, fill};
+use csv_ingest::is_plain;
 use lane_words::{Memory, Refusal};
 use std::alloc::Global;
 use std::marker::Model;
@@ -25,16 +26,19 @@ pub struct Window {
     filled: usize,
     /// How long the buffer becomes, unless a record needs more.
     size: usize,
+    /// Whether the bytes were looked at behind a read, and there is no double quote among them.
+    plain: bool,
 }
 
 impl Model for Window {
-    ghost use Rattle.std.specs.Prelude.{◌≤◌, ℕ, List, length, take};
+    ghost use Rattle.std.specs.Prelude.{◌≡◌, ◌≢◌, ◌≤◌, ℕ, All, List, length, take, true};
 
     ghost Value = { List ℕ };
 
     ghost view = { λ s. take s.filled s.buffer.items };
 
-    ghost invariant = { λ s. s.filled ≤ length s.buffer.items };
+    ghost invariant = { λ s. (s.filled ≤ length s.buffer.items)
+        × (s.plain ≡ true → All (λ c. c ≢ 34) (take s.filled s.buffer.items)) };
 }
 
 /// Copies bytes to the front of a buffer.
@@ -76,6 +80,7 @@ impl Window {
             buffer: Vec::new(alloc),
             filled: 0,
             size,
+            plain: false,
         }
     }
 
@@ -84,6 +89,13 @@ impl Window {
         ensures { result.now ≡ self.now }
     {
         &self.buffer[..self.filled]
+    }
+
+    /// Whether it is known that there is no double quote among the bytes.
+    pub fn is_plain(&self) -> bool
+        ensures { result ≡ true → All (λ c. c ≢ 34) self.now }
+    {
+        self.plain
     }
 
     /// Replaces the bytes by these, which come first in the buffer then. It grows if they fill it,
@@ -97,6 +109,7 @@ impl Window {
         }
         copy_front(self.buffer.as_mut_slice(), bytes);
         self.filled = bytes.len();
+        self.plain = false;
         Ok(())
     }
 
@@ -133,7 +146,10 @@ impl Window {
             (IsReadFault (S.failures source.old) (S.failures source.new)) }
     {
         self.reserve()?;
+        self.plain = false;
         self.filled += fill_behind(source, self.buffer.as_mut_slice(), self.filled)?;
+        // Quotes are looked for here, since the thread that reads does so while others work.
+        self.plain = is_plain(self.text());
         Ok(self.filled < self.buffer.len())
     }
 }

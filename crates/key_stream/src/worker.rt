@@ -10,6 +10,7 @@ use crate::ahead::ReadAhead;
 use csv_ingest::{Wanted, take_chunk};
 use key_counts::KeyCounter;
 use lane_words::{Memory, Refusal};
+use parallel::for_each_mut;
 use std::alloc::Global;
 use std::sync::atomic::{AtomicUsize, Ordering};
 use std::thread;
@@ -157,39 +158,34 @@ impl Worker {
     }
 }
 
-/// A worker takes chunks, and the calling thread reads ahead: before them, or beside it if the read
-/// may wait.
-fn work_and_read<R: Threads + Sync, A: ReadAhead>(
+/// Each worker takes chunks, one after another in this thread.
+#[tactic(auto, unfolding(crate::specs::Layouts::WorkBy))]
+fn work_sequential<R: Threads + Sync>(
     rt: &R,
     alloc: Global,
-    worker: &mut Worker,
+    workers: &mut [Worker],
     chunks: Chunks<'_>,
     next: &AtomicUsize,
     layout: &Layout<'_>,
-    ahead: &mut A,
 )
-    requires ahead { A.can_read ahead.old }
-    requires widths { length chunks.texts.now ≤ length chunks.widths.now }
-    ensures worker { WorksBy layout.now chunks.entry worker.old worker.new }
-    ensures ahead { A.has_read ahead.old ahead.new }
+    requires { length chunks.texts.now ≤ length chunks.widths.now }
+    ensures len { length workers.new ≡ length workers.old }
+    ensures each { WorkBy layout.now chunks.entry workers.old workers.new }
 {
-    if ahead.may_wait() {
-        thread::join_mut(
-            rt,
-            &mut || worker.work(alloc, chunks, next, layout),
-            &mut || ahead.read(),
-        );
-        return;
-    }
-    // A thread of its own for the read would be one more than there are processors.
-    ahead.read();
-    worker.work(alloc, chunks, next, layout);
+    for_each_mut(
+        rt,
+        workers,
+        1,
+        &|_, worker: &mut Worker| {
+            worker.work(alloc, chunks, next, layout);
+        },
+    );
 }
 
-/// The workers take chunks: the last one in the calling thread, which starts a thread for each of
-/// the others, and reads ahead.
+/// Each worker takes chunks in a thread of its own, and the calling thread, which starts them, reads
+/// ahead.
 #[cycle(workers)]
-pub fn work_parallel<R: Threads + Sync, A: ReadAhead>(
+fn work_parallel<R: Threads + Sync, A: ReadAhead>(
     rt: &R,
     alloc: Global,
     workers: &mut [Worker],
@@ -208,12 +204,6 @@ pub fn work_parallel<R: Threads + Sync, A: ReadAhead>(
         ahead.read();
         return;
     };
-    if workers.is_empty() {
-        work_and_read(rt, alloc, worker, chunks, next, layout, ahead);
-        return;
-    }
-    // One thread starts all: of threads that start others, two may do so at once, and Linux then
-    // puts both new ones on one processor.
     thread::join_mut(
         rt,
         &mut || worker.work(alloc, chunks, next, layout),
@@ -226,4 +216,30 @@ pub fn work_parallel<R: Threads + Sync, A: ReadAhead>(
             ensures ahead { A.has_read ahead.entry.now ahead.exit.now }
         { work_parallel(rt, alloc, workers, chunks, next, layout, ahead) },
     );
+}
+
+/// The workers take chunks, and the calling thread reads ahead. It takes no chunk itself, for the
+/// reason told at `for_each_mut`; but one worker alone needs no thread, and takes the chunks behind
+/// the read.
+pub fn work_and_read<R: Threads + Sync, A: ReadAhead>(
+    rt: &R,
+    alloc: Global,
+    workers: &mut [Worker],
+    chunks: Chunks<'_>,
+    next: &AtomicUsize,
+    layout: &Layout<'_>,
+    ahead: &mut A,
+)
+    requires ahead { A.can_read ahead.old }
+    requires widths { length chunks.texts.now ≤ length chunks.widths.now }
+    ensures len { length workers.new ≡ length workers.old }
+    ensures each { WorkBy layout.now chunks.entry workers.old workers.new }
+    ensures ahead { A.has_read ahead.old ahead.new }
+{
+    if workers.len() > 1 {
+        work_parallel(rt, alloc, workers, chunks, next, layout, ahead);
+        return;
+    }
+    ahead.read();
+    work_sequential(rt, alloc, workers, chunks, next, layout);
 }

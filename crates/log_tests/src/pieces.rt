@@ -5,7 +5,9 @@ ghost use Rattle.csv_ingest.specs.Stand.{is_line_end};
 
 use crate::drawn::{Random, rows, scraps, topic_rows};
 use crate::files::{NAMES, Reading, add_item, text_of, text_whole};
-use csv_ingest::{KeySink, Wanted, pieces_of, read_keys, take_chunk, width_behind};
+use csv_ingest::{
+    KeySink, Sizes, Wanted, is_plain, pieces_of, read_keys, take_chunk, width_behind,
+};
 use key_counts::{KeyCounter, KeyCounts};
 use lane_words::{Memory, Refusal};
 use std::alloc::Global;
@@ -64,6 +66,23 @@ fn take_pieces<K: KeySink>(
     Ok(())
 }
 
+/// A file in so many pieces of one length.
+fn pieces_in<'f>(
+    alloc: Global,
+    file: &'f [u8],
+    delimiter: u8,
+    count: usize,
+) -> Result<Vec<&'f [u8]>, Memory>
+    requires { is_line_end delimiter ≡ false }
+{
+    let sizes = Sizes {
+        most: count,
+        step: file.len() / count.max(1),
+        left: 0,
+    };
+    pieces_of(alloc, file, delimiter, sizes, is_plain(file))
+}
+
 /// The keys of a file that is read in so many pieces, in one text.
 fn text_in_pieces(
     alloc: Global,
@@ -73,14 +92,7 @@ fn text_in_pieces(
 ) -> Result<Vec<u8>, Refusal>
     requires { is_line_end reading.now.delimiter ≡ false }
 {
-    let pieces = pieces_of(
-        alloc,
-        file,
-        reading.delimiter,
-        count,
-        file.len() / count.max(1),
-        0,
-    )?;
+    let pieces = pieces_in(alloc, file, reading.delimiter, count)?;
     let mut keys: Vec<Vec<u8>> = Vec::new(alloc);
     take_pieces(alloc, &mut keys, pieces.as_slice(), reading)?;
     Ok(text_of(alloc, &keys, reading.has_topics)?)
@@ -126,14 +138,7 @@ fn text_of_counted(
 ) -> Result<Vec<u8>, Refusal>
     requires { is_line_end reading.now.delimiter ≡ false }
 {
-    let pieces = pieces_of(
-        alloc,
-        file,
-        reading.delimiter,
-        count,
-        file.len() / count.max(1),
-        0,
-    )?;
+    let pieces = pieces_in(alloc, file, reading.delimiter, count)?;
     let mut counter = KeyCounter::new(alloc, hasher, true)?;
     count_pieces(alloc, &mut counter, pieces.as_slice(), reading)?;
     let counts = counter.into_counts();

@@ -24,6 +24,6 @@ runs-preserved c =
           ∙ ap (λ s. stand_after c.args.delimiter s (drop (at + 1) rest)) (sym c.next-stand.ensures);
     }
 
-pub plain_behind-requires-clause-unquoted : goal.plain_behind-requires-clause-unquoted
-plain_behind-requires-clause-unquoted c =
+pub plain_behind-requires-2-clause-unquoted : goal.plain_behind-requires-2-clause-unquoted
+plain_behind-requires-2-clause-unquoted c =
     subst (All (λ b. b ≢ 34)) (take_all c.runs.rest.now) (lacks c.runs.rest.now (length c.runs.rest.now) (omega arith) c.in_default.ensures)

@@ -3,4 +3,4 @@ use Rattle.key_stream.proofs.counting.work_first.Goals as goal
 
 pub returns-clause-each : goal.returns-clause-each
 returns-clause-each g c =
-    first-work c.args.layout.now c.args.chunks c.args.workers.now c.work_parallel.new.workers c.args.threads c.requires.threads c.work_parallel.ensures.len c.work_parallel.ensures.each
+    first-work c.args.layout.now c.args.chunks c.args.workers.now c.work_and_read.new.workers c.args.threads c.requires.threads c.work_and_read.ensures.len c.work_and_read.ensures.each

@@ -5,11 +5,6 @@ use Rattle.key_stream.proofs.worker.+workers.Goals as goal
 pub returns-in_default-clause-each : goal.returns-in_default-clause-each
 returns-in_default-clause-each g t c = none-work c.args.layout.now c.args.chunks c.args.workers.now
 
-pub returns-then-is_empty-clause-each : goal.returns-then-is_empty-clause-each
-returns-then-is_empty-clause-each g t c =
-    first-and-others c.args.layout.now c.args.chunks c.args.workers.now c.in-Some.worker.now c.work_and_read.new.worker c.in-Some.workers.now c.in-Some.workers.now (search rules) c.work_and_read.ensures.worker
-    (none-work c.args.layout.now c.args.chunks c.in-Some.workers.now)
-
 pub returns-clause-each : goal.returns-clause-each
 returns-clause-each g t c =
     first-and-others c.args.layout.now c.args.chunks c.args.workers.now c.in-Some.worker.now _ c.in-Some.workers.now _ (search rules) (search rules) (search rules)
