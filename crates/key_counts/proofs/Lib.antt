@@ -1,7 +1,9 @@
 pub mod Bounds
 pub mod Bytes
+pub mod Chosen
 pub mod Divided
 pub mod Flags
+pub mod Gatherings
 pub mod Growing
 pub mod Made
 pub mod Marks

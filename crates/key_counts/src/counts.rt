@@ -221,14 +221,14 @@ impl KeyCounts {
         ensures { result ≡ key.now }
     {
         let words = KeyWords::of(key);
-        let hash = self.hasher.hash_of_words(&words);
+        let hash = half_of(self.hasher.hash_of_words(&words));
         WaitingKey::new(words, hash)
     }
 
-    /// The code of the entry that most likely has a key of this hash.
+    /// The first slot that may lead to a key of this hash.
     #[inline(always)]
-    pub(crate) fn likely_code(&self, hash: u64) -> u32 {
-        self.slots.likely_code(half_of(hash))
+    pub(crate) fn first_slot(&self, hash: u32) -> u64 {
+        self.slots.first(hash)
     }
 
     /// Takes a record of this short key, whose hash is prepared. Most likely the entry of this code
@@ -236,7 +236,7 @@ impl KeyCounts {
     #[inline(always)]
     pub(crate) fn take_short(
         &mut self,
-        hash: u64,
+        hash: u32,
         likely: u32,
         key: &KeyWords,
     ) -> Result<(), Memory>
@@ -246,7 +246,7 @@ impl KeyCounts {
         if is_copy_of(self.entries.as_slice(), code, key) {
             return self.count_one(code);
         }
-        self.seek_short(half_of(hash), key)
+        self.seek_short(hash, key)
     }
 
     /// Takes a record of this short key, whose hash is prepared.

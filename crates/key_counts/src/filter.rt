@@ -1,10 +1,10 @@
 //! A filter of keys: which of them may have a twin.
 
-ghost use Rattle.std.specs.Prelude.{◌≡◌, ◌≢◌, ◌<◌, ◌≤◌, ◌+◌, ◌++◌, ◌∷◌, ◌/◌, ◌%◌, ◌^◌, [], All, IfOk, List, ℕ, bit_and, length, map, min, slice_index_or, vec_items};
+ghost use Rattle.std.specs.Prelude.{◌≡◌, ◌≢◌, ◌<◌, ◌≤◌, ◌+◌, ◌++◌, ◌∷◌, ◌/◌, ◌%◌, ◌^◌, [], All, IfOk, List, ℕ, bit_and, filter, length, map, min, slice_index_or, take, vec_items};
 ghost use Rattle.key_index.specs.Keys.{Key};
 ghost use Rattle.key_index.specs.Private.KeyHash.{hash_of};
 ghost use Rattle.key_counts.specs.Counts.{Entries};
-ghost use Rattle.key_counts.specs.Private.Filter.{AreMarked, AreMarkedFrom, IsFilterOf, cell_of, is_shared, mark_at, mark_in, part_of};
+ghost use Rattle.key_counts.specs.Private.Filter.{AreMarked, AreMarkedFrom, IsFilterOf, cell_of, is_in, is_shared, mark_at, mark_in, part_of};
 ghost use Rattle.key_counts.specs.Private.Hashes.{AreHashesOf, IsHashed};
 ghost use Rattle.key_counts.specs.Private.Parts.{part_behind};
 ghost use Rattle.key_counts.specs.Private.Results.{AreFound};
@@ -13,13 +13,15 @@ use crate::hashes::hashes_in;
 use crate::merging::Segment;
 use key_index::KeyHash;
 use lane_words::Memory;
-use parallel::{LEAST_KEYS, collected, no_results};
+use parallel::{LEAST_KEYS, collected, for_each_mut, no_results};
 use std::alloc::Global;
-use std::thread;
 use std::thread::Threads;
 
 /// In how many parts the cells are marked, each in a thread of its own.
 pub const PARTS: usize = 4;
+
+/// How many hashes are looked through together for those of a part.
+const LOOKED_THROUGH: usize = 64;
 
 /// The mark of a cell that several keys have. A mark takes two bits.
 const SEVERAL: u8 = 2;
@@ -97,6 +99,36 @@ fn mark_key(bytes: &mut [u8], place: &Place, part: usize, hash: u64)
     }
 }
 
+/// Writes the hashes of a part among these to the front of a buffer, and returns how many they are.
+///
+/// Which hashes are of the part cannot be guessed. If a processor had to guess it before it marks a
+/// cell, it would wait for the memory of one cell after another.
+fn choose(chosen: &mut [u64; LOOKED_THROUGH], part: usize, hashes: &[u64]) -> usize
+    requires { length hashes.now ≤ LOOKED_THROUGH }
+    ensures bound { result ≤ LOOKED_THROUGH }
+    ensures chosen { take result chosen.new ≡ filter (is_in part) hashes.now }
+{
+    let mut count = 0;
+    for i in 0..hashes.len() {
+        chosen[count] = hashes[i];
+        if part_of(hashes[i]) == part {
+            count += 1;
+        }
+    }
+    count
+}
+
+/// Marks the cells of keys of these hashes that are in this part.
+fn mark_keys(bytes: &mut [u8], place: &Place, part: usize, hashes: &[u64])
+    ensures { (done keys : List Key) → hashes.now ≡ map (hash_of place.now.hasher) keys
+        → AreMarked place.now part done bytes.old
+        → AreMarked place.now part (done ++ keys) bytes.new }
+{
+    for i in 0..hashes.len() {
+        mark_key(bytes, place, part, hashes[i]);
+    }
+}
+
 /// Marks the cells of the keys of a segment, from the hashes of its worker's entries.
 fn mark_segment(bytes: &mut [u8], place: &Place, part: usize, hashes: &[u64], segment: Segment)
     requires order { segment.from ≤ segment.to }
@@ -106,8 +138,13 @@ fn mark_segment(bytes: &mut [u8], place: &Place, part: usize, hashes: &[u64], se
         → AreMarked place.now part done bytes.old
         → AreMarked place.now part (done ++ part_behind skip entries segment) bytes.new }
 {
-    for code in segment.from..segment.to {
-        mark_key(bytes, place, part, hashes[code]);
+    let mut chosen = [0; LOOKED_THROUGH];
+    let mut code = segment.from;
+    while code < segment.to {
+        let count = LOOKED_THROUGH.min(segment.to - code);
+        let found = choose(&mut chosen, part, &hashes[code..code + count]);
+        mark_keys(bytes, place, part, &chosen[..found]);
+        code += count;
     }
 }
 
@@ -141,13 +178,12 @@ fn mark_parallel<R: Threads + Sync>(
     segments: &[Segment],
     threads: usize,
 ) -> Result<Vec<Result<Vec<u8>, Memory>>, Memory>
-    requires threads { 0 < threads }
     requires segments { All (IsHashed hashes.now) segments.now }
     ensures { IfOk result (λ found.
         AreFound PARTS (AreMarkedFrom place.now hashes.now segments.now) found.items) }
 {
     let mut found = no_results(alloc, PARTS)?;
-    thread::for_each_mut(
+    for_each_mut(
         rt,
         &mut found,
         threads,
@@ -159,14 +195,12 @@ fn mark_parallel<R: Threads + Sync>(
 }
 
 /// In how many threads work on so many pieces is done. Few entries are not worth a thread.
-pub fn threads_for(place: &Place, pieces: usize) -> usize
-    ensures { 0 < result }
-{
+pub fn threads_for(place: &Place, pieces: usize) -> usize {
     // A part has twice as many cells as there are entries, or more.
     if place.mask / 2 < LEAST_KEYS {
         return 1;
     }
-    pieces.max(1)
+    pieces
 }
 
 /// The mark of a cell. A cell that is not there counts as one of several keys.

@@ -10,9 +10,8 @@ use crate::counts::KeyCounts;
 use crate::merging::behind;
 use key_index::KeyHash;
 use lane_words::Memory;
-use parallel::{collected, no_results};
+use parallel::{collected, for_each_mut, no_results};
 use std::alloc::Global;
-use std::thread;
 use std::thread::Threads;
 
 /// The hashes of entries, each of the key without its first `skip` bytes.
@@ -40,12 +39,11 @@ fn hash_parallel<R: Threads + Sync>(
     skip: usize,
     threads: usize,
 ) -> Result<Vec<Result<Vec<u64>, Memory>>, Memory>
-    requires { 0 < threads }
     ensures { IfOk result (λ found.
         AreFound (length workers.now) (AreHashesIn hasher.now skip workers.now) found.items) }
 {
     let mut found = no_results(alloc, workers.len())?;
-    thread::for_each_mut(
+    for_each_mut(
         rt,
         &mut found,
         threads,
@@ -66,7 +64,6 @@ pub fn hashes_of<R: Threads + Sync>(
     skip: usize,
     threads: usize,
 ) -> Result<Vec<Vec<u64>>, Memory>
-    requires { 0 < threads }
     ensures { IfOk result (λ lists. AreHashed hasher.now skip workers.now lists.items) }
 {
     let found = hash_parallel(rt, alloc, hasher, workers, skip, threads)?;

@@ -11,8 +11,8 @@ ghost use Rattle.key_counts.specs.Segments.{IsSegment, counts_of, is_key, keys_b
 ghost use Rattle.key_index.specs.Keys.{Key, distinct, lent};
 
 use crate::counts::KeyCounts;
-use crate::filter::Place;
-use crate::shared::{Totals, gathered};
+use crate::filter::{Place, threads_for};
+use crate::shared::{Origin, Totals, gathered};
 use crate::twins::Twins;
 use crate::walk::{Position, Walk};
 use key_index::KeyHash;
@@ -130,6 +130,11 @@ impl Start {
     }
 }
 
+/// How often segments are halved to gather entries: few of them in one thread.
+fn halvings_for(place: &Place) -> u32 {
+    if threads_for(place, 4) < 2 { 0 } else { 2 }
+}
+
 /// Entries of workers, and what a walk over them needs.
 #[derive(Drop)]
 pub struct Prepared<'a> {
@@ -165,8 +170,14 @@ impl<'a> Prepared<'a> {
         ensures skip { IfOk result (λ m. m.skip ≡ skip) }
     {
         are_counted(workers);
+        let halvings = halvings_for(&place);
         let twins = Twins::of(rt, alloc, place, workers, segments, skip)?;
-        let shared = gathered(alloc, &twins, workers, segments, skip)?;
+        let origin = Origin {
+            twins: &twins,
+            workers,
+            skip,
+        };
+        let shared = gathered(rt, alloc, &origin, segments, halvings)?;
         let totals = shared.totals(rt, alloc, most_entries(workers).min(shared.keys.len()))?;
         Ok(Prepared {
             workers,

@@ -3,12 +3,14 @@
 ghost use Rattle.std.specs.Prelude.{◌≡◌, ◌<◌, ◌≤◌, ◌+◌, ◌++◌, ◌^◌, ℕ, All, IfOk, OnOk, filter, length, map, slice_index};
 ghost use Rattle.key_counts.specs.Counts.{total};
 ghost use Rattle.key_counts.specs.Partition.{HasCounts};
+ghost use Rattle.key_counts.specs.Private.Gathered.{AreGathered, IsOrigin};
 ghost use Rattle.key_counts.specs.Private.Parts.{IsPartOf, part_behind};
 ghost use Rattle.key_counts.specs.Private.Totals.{AreAddable, AreAdded, AreNumbered, AreTotals, added};
-ghost use Rattle.key_counts.specs.Private.Twins.{HasFlags, HasFlagsOf, may_have_twin};
-ghost use Rattle.key_counts.specs.Private.Walks.{kept_in, kept_of};
-ghost use Rattle.key_counts.specs.Segments.{IsSegment, is_key, keys_behind, totals_of};
+ghost use Rattle.key_counts.specs.Private.Twins.{HasFlagsOf, may_have_twin};
+ghost use Rattle.key_counts.specs.Private.Walks.{kept_in};
+ghost use Rattle.key_counts.specs.Segments.{is_key, totals_of};
 ghost use Rattle.key_index.specs.Keys.{Key, distinct, id_of, lent};
+ghost use denote.Param.Send.{IsSync};
 
 use crate::counts::KeyCounts;
 use crate::merging::{Segment, behind};
@@ -19,6 +21,7 @@ use parallel::LEAST_KEYS;
 use std::alloc::Global;
 use std::hash::RandomState;
 use std::random::RandomSource;
+use std::thread;
 use std::thread::Threads;
 
 /// Entries that may share a key.
@@ -66,23 +69,41 @@ fn gather<'a>(
     Ok(())
 }
 
-/// The entries of these segments that may share a key.
-pub fn gathered<'a>(
+/// Where entries that may share a key are looked for.
+#[derive(Clone, Copy)]
+pub struct Origin<'a, 't> {
+    /// Which entries may share a key.
+    pub twins: &'t Twins,
+    /// The workers.
+    pub workers: &'a [KeyCounts],
+    /// How many bytes of each key are left out.
+    pub skip: usize,
+}
+
+/// How many entries of these segments may share a key. It only decides how much memory is reserved.
+fn count_shared(twins: &Twins, segments: &[Segment]) -> usize {
+    let mut count: usize = 0;
+    for i in 0..segments.len() {
+        count = count.saturating_add(twins.count_in(segments[i]));
+    }
+    count
+}
+
+/// The entries of these segments that may share a key, gathered in this thread.
+fn gathered_sequential<'a>(
     alloc: Global,
-    twins: &Twins,
-    workers: &'a [KeyCounts],
+    origin: &Origin<'a, '_>,
     segments: &[Segment],
-    skip: usize,
 ) -> Result<Shared<'a>, Memory>
-    requires counted { All HasCounts workers.now }
-    requires segments { All (IsSegment workers.now) segments.now }
-    requires flags { HasFlags twins.now skip workers.now }
-    ensures keys { IfOk result (λ shared. lent shared.keys.items
-        ≡ filter (may_have_twin twins.now) (keys_behind skip workers.now segments.now)) }
-    ensures counts { IfOk result (λ shared. shared.counts.items
-        ≡ kept_of (may_have_twin twins.now) skip workers.now segments.now) }
+    requires { IsOrigin origin.now segments.now }
+    ensures { IfOk result (AreGathered origin.now segments.now) }
 {
-    let capacity = twins.len();
+    let Origin {
+        twins,
+        workers,
+        skip,
+    } = *origin;
+    let capacity = count_shared(twins, segments);
     let mut keys = Vec::with_capacity(alloc, capacity)?;
     let mut counts = Vec::with_capacity(alloc, capacity)?;
     for i in 0..segments.len() {
@@ -91,6 +112,74 @@ pub fn gathered<'a>(
         gather(&mut keys, &mut counts, twins, entries, segment, skip)?;
     }
     Ok(Shared { keys, counts })
+}
+
+/// How many of these segments come first, with about half of the entries.
+fn half_of(segments: &[Segment]) -> usize
+    ensures { result ≤ length segments.now }
+{
+    let mut all: usize = 0;
+    for i in 0..segments.len() {
+        all = all.saturating_add(segments[i].to.saturating_sub(segments[i].from));
+    }
+    let mut first: usize = 0;
+    for i in 0..segments.len() {
+        if first >= all / 2 {
+            return i;
+        }
+        first = first.saturating_add(segments[i].to.saturating_sub(segments[i].from));
+    }
+    segments.len()
+}
+
+/// The entries of these segments that may share a key, gathered by halves of halves, so many times,
+/// each in a thread.
+#[cycle(gathering)]
+pub fn gathered<'a, R: Threads + Sync>(
+    rt: &R,
+    alloc: Global,
+    origin: &Origin<'a, '_>,
+    segments: &[Segment],
+    halvings: u32,
+) -> Result<Shared<'a>, Memory>
+    requires { IsOrigin origin.now segments.now }
+    ensures { IfOk result (AreGathered origin.now segments.now) }
+{
+    if halvings == 0 {
+        return gathered_sequential(alloc, origin, segments);
+    }
+    let (front, back) = segments.split_at(half_of(segments));
+    gathered_both(rt, alloc, origin, front, back, halvings - 1)
+}
+
+/// The same of segments in two parts, gathered at the same time.
+#[cycle(gathering)]
+fn gathered_both<'a, R: Threads + Sync>(
+    rt: &R,
+    alloc: Global,
+    origin: &Origin<'a, '_>,
+    front: &[Segment],
+    back: &[Segment],
+    halvings: u32,
+) -> Result<Shared<'a>, Memory>
+    requires front { IsOrigin origin.now front.now }
+    requires back { IsOrigin origin.now back.now }
+    ensures { IfOk result (AreGathered origin.now (front.now ++ back.now)) }
+{
+    let one = move || -> Result<Shared<'_>, Memory>
+        requires { IsSync R.row × IsOrigin origin.now front.now }
+        ensures { IfOk result (AreGathered origin.entry.now front.entry.now) }
+    { gathered(rt, alloc, origin, front, halvings) };
+    let two = move || -> Result<Shared<'_>, Memory>
+        requires { IsSync R.row × IsOrigin origin.now back.now }
+        ensures { IfOk result (AreGathered origin.entry.now back.entry.now) }
+    { gathered(rt, alloc, origin, back, halvings) };
+    let (first, second) = thread::join(rt, one, two);
+    let mut all = first?;
+    let mut others = second?;
+    all.keys.append(&mut others.keys)?;
+    all.counts.append(&mut others.counts)?;
+    Ok(all)
 }
 
 /// The key number of each of these keys, and how many distinct keys they are.

@@ -31,6 +31,15 @@ fn slot_at(slots: &[u64], index: usize) -> u64 {
     }
 }
 
+/// The code in a slot, or the largest number if the slot has another hash. This has no branch that a
+/// processor could guess wrong.
+#[inline(always)]
+pub fn likely_code(slot: u64, hash: u32) -> u32 {
+    let other = (slot / HALF) as u32;
+    let code = ((slot % HALF) as u32).wrapping_sub(1);
+    if other == hash { code } else { u32::MAX }
+}
+
 /// Fills the first empty slot from its home on.
 fn put(slots: &mut [u64], slot: u64) {
     let mut index = (slot / HALF) as usize;
@@ -78,14 +87,10 @@ impl Slots {
         Some(((slot / HALF) as u32, low - 1))
     }
 
-    /// The code in the first slot for this hash, or the largest number if it has another hash. This
-    /// has no branch that a processor could guess wrong.
+    /// The first slot for this hash.
     #[inline(always)]
-    pub fn likely_code(&self, hash: u32) -> u32 {
-        let slot = slot_at(self.slots.as_slice(), hash as usize);
-        let other = (slot / HALF) as u32;
-        let code = ((slot % HALF) as u32).wrapping_sub(1);
-        if other == hash { code } else { u32::MAX }
+    pub fn first(&self, hash: u32) -> u64 {
+        slot_at(self.slots.as_slice(), hash as usize)
     }
 
     /// Twice as many slots.

@@ -11,10 +11,9 @@ use crate::filter::{Filter, Place, threads_for};
 use crate::hashes::{hashes_in, hashes_of};
 use crate::merging::Segment;
 use lane_words::Memory;
-use parallel::{collected, no_results};
+use parallel::{collected, for_each_mut, no_results};
 use std::alloc::Global;
 use std::snapshot::Snapshot;
-use std::thread;
 use std::thread::Threads;
 
 /// Which entries may have a twin.
@@ -54,12 +53,11 @@ fn flag_parallel<R: Threads + Sync>(
     hashes: &[Vec<u64>],
     threads: usize,
 ) -> Result<Vec<Result<Vec<bool>, Memory>>, Memory>
-    requires { 0 < threads }
     ensures { IfOk result (λ found.
         AreFound (length hashes.now) (AreFlagsIn filter.now hashes.now) found.items) }
 {
     let mut found = no_results(alloc, hashes.len())?;
-    thread::for_each_mut(
+    for_each_mut(
         rt,
         &mut found,
         threads,
@@ -78,7 +76,6 @@ fn flagged<R: Threads + Sync>(
     hashes: &[Vec<u64>],
     threads: usize,
 ) -> Result<Vec<Vec<bool>>, Memory>
-    requires { 0 < threads }
     ensures { IfOk result (λ lists. AreFlagged filter.now hashes.now lists.items) }
 {
     let found = flag_parallel(rt, alloc, filter, hashes, threads)?;
@@ -111,13 +108,15 @@ impl Twins {
         })
     }
 
-    /// How many entries may have a twin. It only decides how much memory is reserved.
-    pub fn len(&self) -> usize {
-        let mut count: usize = 0;
-        for w in 0..self.flags.len() {
-            count = count.saturating_add(flags_set(&self.flags[w]));
+    /// How many entries of a segment may have a twin. It only decides how much memory is reserved.
+    pub fn count_in(&self, segment: Segment) -> usize {
+        match self.flags.get(segment.worker) {
+            Some(flags) => match flags.get(segment.from..segment.to) {
+                Some(own) => flags_set(own),
+                None => 0,
+            },
+            None => 0,
         }
-        count
     }
 
     /// Whether each of one worker's entries may have a twin.

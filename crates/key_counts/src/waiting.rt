@@ -4,6 +4,7 @@ ghost use Rattle.std.specs.Prelude.{◌≡◌, ◌∷◌, [], OnOk};
 ghost use Rattle.key_counts.specs.Counts.{Takes};
 
 use crate::counts::KeyCounts;
+use crate::slots::likely_code;
 use key_index::KeyWords;
 use lane_words::Memory;
 use std::marker::Model;
@@ -16,8 +17,8 @@ pub const MOST_WAITING: usize = 32;
 pub struct WaitingKey {
     /// The key.
     key: KeyWords,
-    /// Its hash.
-    hash: u64,
+    /// 32 bits of its hash.
+    hash: u32,
 }
 
 impl Model for WaitingKey {
@@ -29,18 +30,24 @@ impl Model for WaitingKey {
 }
 
 impl WaitingKey {
-    /// A key and its hash.
+    /// A key and 32 bits of its hash.
     #[inline(always)]
-    pub fn new(key: KeyWords, hash: u64) -> WaitingKey
+    pub fn new(key: KeyWords, hash: u32) -> WaitingKey
         ensures { result ≡ key }
     {
         WaitingKey { key, hash }
     }
 
-    /// The code of the entry that most likely has the key.
+    /// The first slot that may lead to the key.
     #[inline(always)]
-    fn likely_code(&self, counts: &KeyCounts) -> u32 {
-        counts.likely_code(self.hash)
+    fn first_slot(&self, counts: &KeyCounts) -> u64 {
+        counts.first_slot(self.hash)
+    }
+
+    /// The code of the entry that most likely has the key, from its first slot.
+    #[inline(always)]
+    fn likely_code(&self, slot: u64) -> u32 {
+        likely_code(slot, self.hash)
     }
 
     /// Counts a record of the key, which the entry of this code most likely has.
@@ -52,13 +59,25 @@ impl WaitingKey {
     }
 }
 
+/// The first slots that may lead to the first of these keys.
+#[inline(always)]
+fn first_slots(counts: &KeyCounts, waiting: &[WaitingKey]) -> [u64; MOST_WAITING] {
+    let mut slots = [0; MOST_WAITING];
+    for i in 0..waiting.len().min(MOST_WAITING) {
+        slots[i] = waiting[i].first_slot(counts);
+    }
+    slots
+}
+
 /// The codes of the entries that most likely have the first of these keys. All slots are read
-/// before any entry, so that a processor need not wait for one before it asks for the next.
+/// before any entry, so that a processor need not wait for one before it asks for the next. They
+/// are read in a loop of few instructions, of which many turns are under way at once.
 #[inline(always)]
 fn likely_codes(counts: &KeyCounts, waiting: &[WaitingKey]) -> [u32; MOST_WAITING] {
+    let slots = first_slots(counts, waiting);
     let mut codes = [u32::MAX; MOST_WAITING];
     for i in 0..waiting.len().min(MOST_WAITING) {
-        codes[i] = waiting[i].likely_code(counts);
+        codes[i] = waiting[i].likely_code(slots[i]);
     }
     codes
 }

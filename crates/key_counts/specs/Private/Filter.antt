@@ -19,10 +19,14 @@ part_of hash = hash / 2 ^ 31 % PARTS
 abbrev pub cell_of : Place → ℕ → ℕ
 cell_of place hash = bit_and hash place.mask
 
+-- whether a hash is in a part
+abbrev pub is_in : ℕ → ℕ → Bool
+is_in part hash = part_of hash == part
+
 -- whether a key has this cell
 unfoldable pub is_at : Place → ℕ → ℕ → Key → Bool
 is_at place part cell key =
-    if part_of (hash_of place.hasher key) == part
+    if is_in part (hash_of place.hasher key)
     then cell_of place (hash_of place.hasher key) == cell else false
 
 -- the mark of a cell in the byte that has it: a byte has the marks of four cells

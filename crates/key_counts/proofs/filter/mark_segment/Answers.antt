@@ -1,36 +1,47 @@
-use Rattle.std.proofs.Common.{◌≡◌, ◌∙◌, ◌++◌, ◌∷◌, [], ◌<◌, ap, append_assoc, arith, drop, length, map, subst, sym}
-use Rattle.std.specs.Prelude.{slice_range}
-use Rattle.std.proofs.lemmas.List.{append-nil}
-use Rattle.key_index.specs.Keys.{key_at}
-use Rattle.key_counts.specs.Private.Filter.{AreMarked}
-use Rattle.key_counts.proofs.Parts.{behind-next, behind-none}
+use Rattle.std.proofs.Common.{◌≡◌, ◌∙◌, ◌+◌, ◌++◌, ◌≤◌, ap, append_assoc, arith, drop, map, subst, sym, take}
+use Rattle.std.specs.Prelude.{filter, slice_range}
+use Rattle.std.proofs.lemmas.List.{append-nil, map-append}
+use Rattle.key_index.specs.Private.KeyHash.{hash_of}
+use Rattle.key_counts.specs.Private.Filter.{AreMarked, is_in}
+use Rattle.key_counts.proofs.Chosen.{chosen-enough, filter-map, hashes-behind, slice-parted}
+use Rattle.key_counts.proofs.Parts.{behind-none}
 use Rattle.key_counts.proofs.filter.mark_segment.Goals as goal
 
 pub loop-code-init : goal.loop-code-init
 loop-code-init c = record {
-  within = omega arith;
+  from = omega arith;
+  to = omega (arith, c.requires.order);
   marked = λ entries skip done hashed so. rw (behind-none skip entries.keys c.args.segment.from, append-nil done) so;
 }
 
 pub loop-code-preserved : goal.loop-code-preserved
 loop-code-preserved c =
     let inv = c.loop-code.invariant in
-    let from = c.args.segment.from in
+    let place = c.args.place.now in
+    let part = c.args.part in
+    let hashes = c.args.hashes.now in
+    let start = c.args.segment.from in
     let code = c.loop-code.code in
+    let end = code + c.min-count.result in
+    let few : end ≤ c.args.segment.to = omega (arith, inv.to) in
     record {
-      within = omega (arith, inv.within);
+      from = omega (arith, inv.from);
+      to = few;
       marked = λ entries skip done hashed so.
           let keys = entries.keys in
-          let before = map (drop skip) (slice_range keys from code) in
-          let in_hashes : code < length c.args.hashes.now = omega (arith, c.requires.within) in
-          let in_keys : code < length keys = omega (arith, in_hashes, hashed.len) in
-          let key = drop skip (key_at keys code) in
-          let all = append_assoc done before (key ∷ []) ∙ ap (λ ks. done ++ ks) (sym (behind-next skip keys from code inv.within in_keys)) in
-          subst (λ ks. AreMarked c.args.place.now c.args.part ks c.mark_key.new.bytes) all (c.mark_key.ensures (done ++ before) key (hashed.each code in_keys) (inv.marked entries skip done hashed so));
+          let before = map (drop skip) (slice_range keys start code) in
+          let batch = map (drop skip) (slice_range keys code end) in
+          let chosen = filter (λ k. is_in part (hash_of place.hasher k)) batch in
+          let of : slice_range hashes code end ≡ map (hash_of place.hasher) batch = hashes-behind place.hasher skip entries hashes code end hashed (omega arith) (omega (arith, few, c.requires.within)) in
+          let are : take c.choose-found.result c.choose-found.new.chosen ≡ map (hash_of place.hasher) chosen =
+          c.choose-found.ensures.chosen ∙ ap (filter (is_in part)) of ∙ filter-map (is_in part) (hash_of place.hasher) batch in
+          let some = c.mark_keys.ensures (done ++ before) chosen are (inv.marked entries skip done hashed so) in
+          let all = append_assoc done before batch ∙ ap (λ ks. done ++ ks) (sym (ap (map (drop skip)) (slice-parted keys start code end inv.from (omega arith)) ∙ map-append (drop skip) (slice_range keys start code) (slice_range keys code end))) in
+          subst (λ ks. AreMarked place part ks c.mark_keys.new.bytes) all (chosen-enough place part (done ++ before) batch c.mark_keys.new.bytes some);
     }
 
 pub returns : goal.returns
 returns c = λ entries skip done hashed so.
     let inv = c.loop-code.invariant in
-    let last : c.loop-code.code ≡ c.args.segment.to = omega (arith, c.requires.order) in
+    let last : c.loop-code.code ≡ c.args.segment.to = omega (arith, inv.to) in
     rw last at (inv.marked entries skip done hashed so)
