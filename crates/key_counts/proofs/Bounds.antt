@@ -1,22 +1,15 @@
 -- Where the parts of a walk begin.
-use Rattle.std.proofs.Common.{◌≡◌, ◌∙◌, ◌+◌, ◌-◌, ◌<◌, ◌≤◌, ℕ, List, [], ◌∷◌, ◌++◌, length, get_or, sym, subst, ap, refl, arith, inl, inr, length-append}
+use Rattle.std.proofs.Common.{◌≡◌, ◌∙◌, ◌+◌, ◌-◌, ◌<◌, ◌≤◌, ℕ, zero, suc, List, [], ◌∷◌, ◌++◌, length, get_or, sym, subst, ap, refl, arith, inl, inr, length-append}
 use Rattle.std.specs.Prelude.{All}
 use Rattle.std.proofs.lemmas.Bool.{cases_eq, cases_lt}
 use Rattle.std.proofs.lemmas.List.{get_or_append_left, nil_from_length}
 use Rattle.std.proofs.lemmas.List.Elements.{All-append}
 use Rattle.std.proofs.Math.Seq.{get_or-append_seam}
-use Rattle.key_counts.specs.Private.Prepared.{AreBounds, AreStarts, IsBound, IsPrepared, all_counts, all_keys, entries_before}
-use Rattle.key_counts.specs.Private.Twins.{may_have_twin}
-use Rattle.key_counts.specs.Private.Walks.{IsAt, PassesOver}
-use Rattle.key_counts.specs.Private.Results.{list_of}
-use Rattle.key_counts.specs.Segments.{IsSegment, entries_of}
+use Rattle.key_counts.specs.Private.Prepared.{AreBounds, AreStartsOf, HasLeft, IsBound}
 use Rattle.key_counts.specs.declared.merging.Prepared.{Prepared}
-use Rattle.key_counts.specs.declared.merging.Segment.{Segment}
 use Rattle.key_counts.specs.declared.merging.Start.{Start}
-use Rattle.key_counts.proofs.Parts.{follows, len-more}
-use Rattle.key_counts.proofs.Walks.{at-start}
 
-pub starts-none : (m : Prepared) → AreStarts m 0 []
+pub starts-none : (m : Prepared) → AreStartsOf m 0 []
 starts-none m = record {
   each = λ k d lt. absurd (omega (arith, lt));
   below = λ k d lt. absurd (omega (arith, lt));
@@ -28,7 +21,7 @@ starts-none m = record {
 one : (P : Start → Type 0) (here : Start) → P here → All P (here ∷ [])
 one P here so = λ k d lt. let none : k ≡ 0 = omega (arith, lt) in subst (λ n. P (get_or (here ∷ []) n d)) (sym none) so
 
-pub starts-push : (m : Prepared) (i : ℕ) (starts : List Start) (here : Start) → AreStarts m i starts → IsBound m here → here.segment ≡ i → AreStarts m i (starts ++ here ∷ [])
+pub starts-push : (m : Prepared) (i : ℕ) (starts : List Start) (here : Start) → AreStartsOf m i starts → IsBound m here → here.segment ≡ i → AreStartsOf m i (starts ++ here ∷ [])
 starts-push m i starts here so bound at =
     let len = length-append starts (here ∷ []) in
     record {
@@ -55,7 +48,7 @@ starts-push m i starts here so bound at =
       none = λ e. absurd (omega (arith, e, len));
     }
 
-pub starts-later : (m : Prepared) (i : ℕ) (starts : List Start) → AreStarts m i starts → 0 < length starts → AreStarts m (i + 1) starts
+pub starts-later : (m : Prepared) (i : ℕ) (starts : List Start) → AreStartsOf m i starts → 0 < length starts → AreStartsOf m (i + 1) starts
 starts-later m i starts so some = record {
   each = so.each;
   below = λ k d lt. omega (arith, so.below k d lt);
@@ -65,38 +58,34 @@ starts-later m i starts so some = record {
 }
 
 -- the last bound is the end of all segments
-pub bounds-end : (m : Prepared) (starts : List Start) (here : Start) → AreStarts m (length m.segments.now) starts → IsBound m here → here.segment ≡ length m.segments.now → AreBounds m (starts ++ here ∷ [])
+pub bounds-end : (m : Prepared) (starts : List Start) (here : Start) → AreStartsOf m (length m.segments.items) starts → IsBound m here → here.segment ≡ length m.segments.items → AreBounds m (starts ++ here ∷ [])
 bounds-end m starts here so bound at =
     let len = length-append starts (here ∷ []) in
     record {
-      starts = starts-push m (length m.segments.now) starts here so bound at;
+      starts = starts-push m (length m.segments.items) starts here so bound at;
       some = omega (arith, len);
       last = λ i d e.
           let end : i ≡ length starts = omega (arith, e, len) in
           ap (λ n. (get_or (starts ++ here ∷ []) n d).segment) end ∙ ap (λ (s : Start). s.segment) (get_or-append_seam starts here [] d) ∙ at;
     }
 
-pub bound-first : (m : Prepared) (here : Start) → here.segment ≡ 0 → here.position.at ≡ 0 → here.position.next ≡ 0 → IsBound m here
-bound-first m here segment at next =
-    let none : entries_before m here.segment ≡ 0 = ap (entries_before m) segment in
-    record {
-      within = omega (arith, segment);
-      here = subst (λ k. IsAt (may_have_twin m.twins) (all_keys m) k here.position) (sym none) (at-start (may_have_twin m.twins) (all_keys m) here.position at next);
-    }
+-- starts rise
+pub starts-rise : (m : Prepared) (to : ℕ) (starts : List Start) (i j : ℕ) (d : Start) → AreStartsOf m to starts → i ≤ j → j < length starts → (get_or starts i d).segment ≤ (get_or starts j d).segment
+starts-rise m to starts i zero d so le lt = let none : i ≡ 0 = omega (arith, le) in rw none (omega arith)
+starts-rise m to starts i (suc j) d so le lt =
+    elim (cases_lt i (suc j)) [
+      | inl less ↦
+          let before = starts-rise m to starts i j d so (omega (arith, less)) (omega (arith, lt)) in
+          let next = so.rise j d (omega (arith, lt)) in
+          let up : j + 1 ≡ suc j = omega arith in
+          omega (arith, before, rw up at next)
+      | inr ge ↦ let end : i ≡ suc j = omega (arith, le, ge) in rw end (omega arith)
+    ]
 
--- after a segment comes the next bound
-pub bound-next : (m : Prepared) (here next : Start) (i : ℕ) (d : Segment) → IsPrepared m → IsBound m here → here.segment ≡ i → i < length m.segments.now
-    → PassesOver m.totals (list_of m.twins.flags.items (get_or m.segments.now i d).worker) (get_or m.segments.now i d) here.position next.position → next.segment ≡ i + 1 → IsBound m next
-bound-next m here next i d so bound at lt passes up =
-    let workers = m.workers.now in
-    let s = get_or m.segments.now i d in
-    let p = may_have_twin m.twins in
-    let part : IsSegment workers s = so.segments i d lt in
-    let was : IsAt p (all_keys m) (entries_before m i) here.position = subst (λ n. IsAt p (all_keys m) (entries_before m n) here.position) at bound.here in
-    let now = passes p m.skip (entries_of workers s.worker) (all_keys m) (all_counts m) (entries_before m i) (so.flags.each s.worker part.worker) so.totals
-    (follows m.skip workers m.segments.now i d so.counted so.segments lt) was in
-    let more : entries_before m next.segment ≡ entries_before m i + (s.to - s.from) = ap (entries_before m) up ∙ len-more workers m.segments.now i d so.segments lt in
-    record {
-      within = omega (arith, up, lt);
-      here = subst (λ k. IsAt p (all_keys m) k next.position) (sym more) now;
-    }
+-- the entries of fewer segments are left, too
+pub left-less : (m : Prepared) (count fewer : ℕ) → HasLeft m count → fewer ≤ count → HasLeft m fewer
+left-less m count fewer so le = record {
+  len = so.len;
+  first = so.first;
+  within = λ i d lt in_all. so.within i d (omega (arith, lt, le)) in_all;
+}

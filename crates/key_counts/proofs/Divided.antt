@@ -10,7 +10,7 @@ use Rattle.key_index.proofs.Firsts.{length-first}
 use Rattle.key_index.specs.Keys.{Key, distinct, is_interned, with_key}
 use Rattle.key_counts.specs.Counts.{total}
 use Rattle.key_counts.specs.Merging.{IsDivided}
-use Rattle.key_counts.specs.Private.Prepared.{AreBounds, IsPrepared, all_counts, all_keys, entries_before, keys_before, totals_before}
+use Rattle.key_counts.specs.Private.Prepared.{AreBounds, IsPrepared, all_counts, all_keys, entries_before, keys_before, totals_before, whole_of}
 use Rattle.key_counts.specs.Segments.{is_key, keys_in, keys_of, merged_counts, totals_of}
 use Rattle.key_counts.specs.declared.merging.Prepared.{Prepared}
 use Rattle.key_counts.specs.declared.merging.Start.{Start}
@@ -58,7 +58,7 @@ keys-between m start end keys joined =
     slice-between (keys_before m start) keys (keys_before m end) begins.0 (distinct (all_keys m)) joined begins.1
 
 pub counts-between : (m : Prepared) (start end : Start) (counts : List ℕ) → totals_before m start ++ counts ≡ totals_before m end
-    → counts ≡ slice_range (merged_counts m.skip m.workers.now m.segments.now) (length (keys_before m start)) (length (keys_before m end))
+    → counts ≡ slice_range (merged_counts m.skip (whole_of m) m.segments.items) (length (keys_before m start)) (length (keys_before m end))
 counts-between m start end counts joined =
     let f : Key → ℕ = λ x. total (is_key x) (all_keys m) (all_counts m) in
     let begins = distinct-begins (all_keys m) (entries_before m end.segment) in
@@ -84,25 +84,25 @@ before-none : (m : Prepared) (start : Start) → start.segment ≡ 0 → keys_be
 unfolding distinct
 before-none m start is = ap (λ i. distinct (take (entries_before m i) (all_keys m))) is
 
-before-all : (m : Prepared) (start : Start) → start.segment ≡ length m.segments.now → keys_before m start ≡ distinct (all_keys m)
+before-all : (m : Prepared) (start : Start) → start.segment ≡ length m.segments.items → keys_before m start ≡ distinct (all_keys m)
 before-all m start is =
-    let keys = keys_of m.workers.now m.segments.now in
-    let count : entries_before m start.segment ≡ length keys = ap (λ ss. length (keys_of m.workers.now ss)) (take_all start.segment m.segments.now (omega (arith, is))) in
+    let keys = keys_of (whole_of m) m.segments.items in
+    let count : entries_before m start.segment ≡ length keys = ap (λ ss. length (keys_of (whole_of m) ss)) (take_all start.segment m.segments.items (omega (arith, is))) in
     let long : length (all_keys m) ≤ entries_before m start.segment = omega (arith, count, length-map keys (drop m.skip)) in
     ap distinct (take_all (entries_before m start.segment) (all_keys m) long)
 
 entries-rise : (m : Prepared) (i j : ℕ) → i ≤ j → entries_before m i ≤ entries_before m j
 entries-rise m i j le =
-    let workers = m.workers.now in
-    let later = take j m.segments.now in
-    let parted : keys_of workers later ≡ keys_of workers (take i m.segments.now) ++ keys_of workers (drop i later) =
-    ap (keys_of workers) (sym (take-append-drop i later)) ∙ flat_map-append (keys_in workers) (take i later) (drop i later) ∙ ap (λ ss. keys_of workers ss ++ keys_of workers (drop i later)) (take-take i j m.segments.now le) in
-    omega (arith, ap length parted, length-append (keys_of workers (take i m.segments.now)) (keys_of workers (drop i later)))
+    let workers = (whole_of m) in
+    let later = take j m.segments.items in
+    let parted : keys_of workers later ≡ keys_of workers (take i m.segments.items) ++ keys_of workers (drop i later) =
+    ap (keys_of workers) (sym (take-append-drop i later)) ∙ flat_map-append (keys_in workers) (take i later) (drop i later) ∙ ap (λ ss. keys_of workers ss ++ keys_of workers (drop i later)) (take-take i j m.segments.items le) in
+    omega (arith, ap length parted, length-append (keys_of workers (take i m.segments.items)) (keys_of workers (drop i later)))
 
-abbrev ends_by : (Start → ℕ) → List Start → List ℕ
+abbrev pub ends_by : (Start → ℕ) → List Start → List ℕ
 ends_by f bounds = drop 1 (map f bounds)
 
-ends-len : (f : Start → ℕ) (bounds : List Start) → 0 < length bounds → length (ends_by f bounds) + 1 ≡ length bounds
+pub ends-len : (f : Start → ℕ) (bounds : List Start) → 0 < length bounds → length (ends_by f bounds) + 1 ≡ length bounds
 ends-len f [] some = absurd (omega (arith, some))
 ends-len f (b ∷ bounds) some = omega (arith, length-map bounds f)
 
@@ -117,7 +117,7 @@ start-at f [] i d lt first = absurd (omega (arith, lt))
 start-at f (b ∷ bounds) zero d lt first = sym first
 start-at f (b ∷ bounds) (suc i) d lt first = get_or-map f bounds i d 0 (omega (arith, lt))
 
-abbrev len_before : Prepared → Start → ℕ
+abbrev pub len_before : Prepared → Start → ℕ
 len_before m b = length (keys_before m b)
 
 -- a part is what stands between two bounds
@@ -132,11 +132,11 @@ part-ends m bounds i start end so lt begins ends =
     )
 
 -- the parts are all keys
-pub divided : (m : Prepared) (bounds : List Start) → IsPrepared m → AreBounds m bounds
-    → IsDivided (record { keys = distinct (all_keys m); counts = merged_counts m.skip m.workers.now m.segments.now; ends = ends_by (len_before m) bounds })
-divided m bounds so are =
+pub divided : (m : Prepared) (bounds : List Start) (left : ℕ) → IsPrepared m → AreBounds m bounds
+    → IsDivided (record { keys = distinct (all_keys m); counts = merged_counts m.skip (whole_of m) m.segments.items; ends = ends_by (len_before m) bounds; left = left })
+divided m bounds left so are =
     let f = len_before m in
-    let d : Start = record { segment = 0; entries = 0; position = record { at = 0; next = 0 } } in
+    let d : Start = record { segment = 0; entries = 0 } in
     let ends = ends_by f bounds in
     let len = ends-len f bounds are.some in
     let first : f (get_or bounds 0 d) ≡ 0 = ap length (before-none m (get_or bounds 0 d) (are.starts.first d are.some)) in
@@ -151,10 +151,10 @@ divided m bounds so are =
     }
 
 -- the first bound and the last have all keys between them
-pub keys-whole : (m : Prepared) (start end : Start) (keys : List Key) → start.segment ≡ 0 → end.segment ≡ length m.segments.now → keys_before m start ++ keys ≡ keys_before m end → keys ≡ distinct (all_keys m)
+pub keys-whole : (m : Prepared) (start end : Start) (keys : List Key) → start.segment ≡ 0 → end.segment ≡ length m.segments.items → keys_before m start ++ keys ≡ keys_before m end → keys ≡ distinct (all_keys m)
 keys-whole m start end keys first last joined = ap (λ ks. ks ++ keys) (sym (before-none m start first)) ∙ joined ∙ before-all m end last
 
-pub counts-whole : (m : Prepared) (start end : Start) (counts : List ℕ) → start.segment ≡ 0 → end.segment ≡ length m.segments.now → totals_before m start ++ counts ≡ totals_before m end
-    → counts ≡ merged_counts m.skip m.workers.now m.segments.now
+pub counts-whole : (m : Prepared) (start end : Start) (counts : List ℕ) → start.segment ≡ 0 → end.segment ≡ length m.segments.items → totals_before m start ++ counts ≡ totals_before m end
+    → counts ≡ merged_counts m.skip (whole_of m) m.segments.items
 counts-whole m start end counts first last joined =
     ap (λ ks. totals_of ks (all_keys m) (all_counts m) ++ counts) (sym (before-none m start first)) ∙ joined ∙ ap (λ ks. totals_of ks (all_keys m) (all_counts m)) (before-all m end last)

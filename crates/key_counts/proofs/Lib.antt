@@ -2,12 +2,13 @@ pub mod Bounds
 pub mod Bytes
 pub mod Chosen
 pub mod Divided
-pub mod Flags
-pub mod Gatherings
+pub mod First
 pub mod Growing
 pub mod Made
+pub mod Members
 pub mod Marks
 pub mod Partition
+pub mod OwnClasses
 pub mod Parts
 pub mod Recorded
 pub mod Rounds

@@ -1,9 +1,9 @@
 -- Entries merged in their order.
-use Rattle.std.proofs.Common.{◌≡◌, ◌≢◌, ◌∙◌, ◌+◌, ◌*◌, ◌<◌, ◌≤◌, ℕ, zero, suc, Bool, true, false, Some, None, List, [], ◌∷◌, ◌++◌, length, map, take, drop, cond, get_or, sym, subst, ap, ap₂, refl, arith, inl, inr, append_assoc, length-append}
-use Rattle.std.specs.Prelude.{count_by, filter, if◌then◌else◌, sum_by}
+use Rattle.std.proofs.Common.{◌≡◌, ◌≢◌, ◌∙◌, ◌+◌, ◌*◌, ◌<◌, ◌≤◌, ℕ, zero, suc, Bool, true, false, Some, None, List, [], ◌∷◌, ◌++◌, length, map, take, drop, cond, get_or, sym, subst, ap, ap₂, refl, arith, inl, inr, append_assoc, length-append, get_or-set_same, get_or-set_other, length-set}
+use Rattle.std.specs.Prelude.{count_by, filter, if◌then◌else◌, slice_set, sum_by}
 use Rattle.std.specs.List.{fold}
 use Rattle.std.specs.Str.{bytes_eq}
-use Rattle.std.proofs.lemmas.Bool.{both_ways, cases_Bool}
+use Rattle.std.proofs.lemmas.Bool.{both_ways, cases_Bool, cases_eq, eq-eqb, ne_eqb}
 use Rattle.std.proofs.lemmas.List.{append-nil, drop_more, get_or-map, length-map, map-append, take-append-drop, take_more}
 use Rattle.std.proofs.lemmas.List.Elements.{filter-append}
 use Rattle.std.proofs.lemmas.List.Sums.{fold_push, sum_by-append, sum_by-cons}
@@ -14,10 +14,12 @@ use Rattle.key_index.proofs.Firsts.{interned-there, new_is_next, number-there}
 use Rattle.key_index.proofs.Growth.{interned}
 use Rattle.key_index.specs.Keys.{Key, distinct, id_of, is_interned, key_at, lent, with_key}
 use Rattle.key_counts.specs.Counts.{total}
-use Rattle.key_counts.specs.Private.Filter.{AreOnce}
-use Rattle.key_counts.specs.Private.Walks.{AreTotalled, IsAt, IsNewTotal, IsNext, IsStart, IsWalked, kept}
+use Rattle.key_counts.specs.Private.Twins.{IsOnce}
+use Rattle.key_counts.specs.Private.Walks.{AreAt, AreClasses, AreTotalled, IsAt, IsNewTotal, IsNext, IsStart, IsWalked, is_of, kept}
 use Rattle.key_counts.specs.Segments.{is_key, totals_of}
-use Rattle.key_counts.specs.declared.shared.Totals.{Totals}
+use Rattle.key_counts.specs.declared.classes.Class.{Class}
+use Rattle.key_counts.specs.declared.classes.Totals.{Totals}
+use Rattle.key_counts.specs.declared.twins.TheConstants.{CLASSES}
 use Rattle.key_counts.specs.declared.walk.Position.{Position}
 use Rattle.key_counts.specs.declared.walk.Walk.{Walk}
 
@@ -186,18 +188,18 @@ split-at all k x lt is = sym (take-append-drop k all) ∙ ap (λ ks. take k all 
 pub taken-more : (all : List Key) (k : ℕ) (x : Key) → k < length all → x ≡ key_at all k → take (k + 1) all ≡ take k all ++ x ∷ []
 taken-more all k x lt is = take_more all k [] lt ∙ ap (λ y. take k all ++ y ∷ []) (sym is)
 
--- a key that is not shared is new
-pub unique-new : (p : Key → Bool) (all : List Key) (k : ℕ) (x : Key) → AreOnce p all → k < length all → x ≡ key_at all k → p x ≡ false
+-- a key of no class is new
+pub unique-new : (class : Key → ℕ) (all : List Key) (k : ℕ) (x : Key) → IsOnce class all → k < length all → x ≡ key_at all k → class x ≡ 0
     → is_interned (distinct (take k all)) x ≡ false
-unique-new p all k x once lt is fails =
+unique-new class all k x once lt is fails =
     let f : Key → ℕ = λ y. cond (bytes_eq x y) 1 0 in
     let parted = ap (sum_by f) (split-at all k x lt is) ∙ sum_by-append f (take k all) (x ∷ drop (k + 1) all) in
     let rest = count-cons x x (drop (k + 1) all) in
     absent (take k all) x (omega (arith, parted, rest, own-count x, once x fails))
 
-pub unique-total : (p : Key → Bool) (all : List Key) (counts : List ℕ) (k : ℕ) (x : Key) → AreOnce p all → length counts ≡ length all → k < length all → x ≡ key_at all k → p x ≡ false
+pub unique-total : (class : Key → ℕ) (all : List Key) (counts : List ℕ) (k : ℕ) (x : Key) → IsOnce class all → length counts ≡ length all → k < length all → x ≡ key_at all k → class x ≡ 0
     → total (is_key x) all counts ≡ get_or counts k 0
-unique-total p all counts k x once len lt is fails = total-once x all counts k len lt is (once x fails)
+unique-total class all counts k x once len lt is fails = total-once x all counts k len lt is (once x fails)
 
 -- a shared key is new if its number is the next
 pub record IsNumbered (p : Key → Bool) (all : List Key) (k : ℕ) (x : Key) : Type 0 where
@@ -236,27 +238,6 @@ shared-old p all k x n ne =
       | inr e ↦ absurd (ne (n.same ∙ (new_is_next (distinct (filter p (take k all))) x).1 (n.known ∙ e)))
     ]
 
--- ---- one more entry is gathered
-pub gathered-yes : (p : Key → Bool) (old was new before all : List Key) (x : Key) → all ≡ before ++ x ∷ [] → p x ≡ true → was ≡ old ++ filter p before → new ≡ was ++ x ∷ [] → new ≡ old ++ filter p all
-gathered-yes p old was new before all x is px so made =
-    made ∙ ap (λ ks. ks ++ x ∷ []) so ∙ append_assoc old (filter p before) (x ∷ []) ∙ ap (λ ks. old ++ ks) (sym (filter-yes p before x px)) ∙ ap (λ ks. old ++ filter p ks) (sym is)
-
-pub gathered-no : (p : Key → Bool) (old was before all : List Key) (x : Key) → all ≡ before ++ x ∷ [] → p x ≡ false → was ≡ old ++ filter p before → was ≡ old ++ filter p all
-gathered-no p old was before all x is px so =
-    so ∙ ap (λ ks. old ++ ks) (sym (append-nil (filter p before)) ∙ sym (filter-no p before x px)) ∙ ap (λ ks. old ++ filter p ks) (sym is)
-
-pub counted-yes : (p : Key → Bool) (old was new counts after : List ℕ) (before all : List Key) (x : Key) (n : ℕ) → all ≡ before ++ x ∷ [] → after ≡ counts ++ n ∷ [] → length counts ≡ length before
-    → p x ≡ true → was ≡ old ++ kept p before counts → new ≡ was ++ n ∷ [] → new ≡ old ++ kept p all after
-counted-yes p old was new counts after before all x n is ns len px so made =
-    made ∙ ap (λ ms. ms ++ n ∷ []) so ∙ append_assoc old (kept p before counts) (n ∷ []) ∙ ap (λ ms. old ++ ms) (sym (kept-yes p before counts x n len px))
-    ∙ ap₂ (λ ks ms. old ++ kept p ks ms) (sym is) (sym ns)
-
-pub counted-no : (p : Key → Bool) (old was counts after : List ℕ) (before all : List Key) (x : Key) (n : ℕ) → all ≡ before ++ x ∷ [] → after ≡ counts ++ n ∷ [] → length counts ≡ length before
-    → p x ≡ false → was ≡ old ++ kept p before counts → was ≡ old ++ kept p all after
-counted-no p old was counts after before all x n is ns len px so =
-    so ∙ ap (λ ms. old ++ ms) (sym (append-nil (kept p before counts)) ∙ sym (kept-no p before counts x n len px))
-    ∙ ap₂ (λ ks ms. old ++ kept p ks ms) (sym is) (sym ns)
-
 -- ---- one more entry is merged
 pub new-keys : (ks : List Key) (x : Key) → is_interned ks x ≡ false → with_key ks x ≡ ks ++ x ∷ []
 new-keys ks x fails = rw fails refl
@@ -275,10 +256,10 @@ more-totals all counts k x lt is fails =
     ap (map f) (more-keys all k x lt is ∙ new-keys (distinct (take k all)) x fails) ∙ map-append f (distinct (take k all)) (x ∷ [])
 
 -- the entry has a new key
-pub walked-new : (p : Key → Bool) (all : List Key) (counts : List ℕ) (from k : ℕ) (x : Key) (n : ℕ) (old new : Walk) → k < length all → x ≡ key_at all k → is_interned (distinct (take k all)) x ≡ false
-    → n ≡ total (is_key x) all counts → IsWalked p all counts from k old → lent new.keys.items ≡ lent old.keys.items ++ x ∷ [] → new.counts.items ≡ old.counts.items ++ n ∷ [] → IsAt p all (k + 1) new.position
-    → IsWalked p all counts from (k + 1) new
-walked-new p all counts from k x n old new lt is absent own was keys totals here =
+pub walked-new : (class : Key → ℕ) (all : List Key) (counts : List ℕ) (from k : ℕ) (x : Key) (n : ℕ) (old new : Walk) → k < length all → x ≡ key_at all k → is_interned (distinct (take k all)) x ≡ false
+    → n ≡ total (is_key x) all counts → IsWalked class all counts from k old → lent new.keys.items ≡ lent old.keys.items ++ x ∷ [] → new.counts.items ≡ old.counts.items ++ n ∷ [] → AreAt class all (k + 1) new.positions
+    → IsWalked class all counts from (k + 1) new
+walked-new class all counts from k x n old new lt is absent own was keys totals here =
     let before = distinct (take from all) in
     let done = distinct (take k all) in
     record {
@@ -289,10 +270,10 @@ walked-new p all counts from k x n old new lt is absent own was keys totals here
     }
 
 -- the entry has a key that came before
-pub walked-old : (p : Key → Bool) (all : List Key) (counts : List ℕ) (from k : ℕ) (x : Key) (old new : Walk) → k < length all → x ≡ key_at all k → is_interned (distinct (take k all)) x ≡ true
-    → IsWalked p all counts from k old → lent new.keys.items ≡ lent old.keys.items → new.counts.items ≡ old.counts.items → IsAt p all (k + 1) new.position
-    → IsWalked p all counts from (k + 1) new
-walked-old p all counts from k x old new lt is there was keys totals here =
+pub walked-old : (class : Key → ℕ) (all : List Key) (counts : List ℕ) (from k : ℕ) (x : Key) (old new : Walk) → k < length all → x ≡ key_at all k → is_interned (distinct (take k all)) x ≡ true
+    → IsWalked class all counts from k old → lent new.keys.items ≡ lent old.keys.items → new.counts.items ≡ old.counts.items → AreAt class all (k + 1) new.positions
+    → IsWalked class all counts from (k + 1) new
+walked-old class all counts from k x old new lt is there was keys totals here =
     let before = distinct (take from all) in
     let same_keys : distinct (take (k + 1) all) ≡ distinct (take k all) = more-keys all k x lt is ∙ old-keys (distinct (take k all)) x there in
     record {
@@ -310,13 +291,43 @@ at-unique p all k x here fails lt is was =
       next = was.next ∙ ap (λ ks. length (distinct ks)) (sym rest);
     }
 
-pub walked-unique : (p : Key → Bool) (all : List Key) (counts : List ℕ) (from k : ℕ) (x : Key) (n : ℕ) (t : Totals) (old new : Walk) → p x ≡ false → AreTotalled p all counts t → IsNext all counts k x n
-    → IsWalked p all counts from k old → lent new.keys.items ≡ lent old.keys.items ++ x ∷ [] → new.counts.items ≡ old.counts.items ++ n ∷ [] → new.position ≡ old.position
-    → IsWalked p all counts from (k + 1) new
-walked-unique p all counts from k x n t old new fails so at was keys totals same =
-    let absent = unique-new p all k x so.once at.within at.same fails in
-    let own : n ≡ total (is_key x) all counts = at.count ∙ sym (unique-total p all counts k x so.once so.len at.within at.same fails) in
-    walked-new p all counts from k x n old new at.within at.same absent own was keys totals (subst (IsAt p all (k + 1)) (sym same) (at-unique p all k x old.position fails at.within at.same was.here))
+-- a key of another class, or of none, does not pass
+pub of-other : (class : Key → ℕ) (c : ℕ) (x : Key) → class x ≢ c + 1 → is_of class c x ≡ false
+of-other class c x other = ne_eqb (class x) (c + 1) other
+
+pub of-own : (class : Key → ℕ) (c : ℕ) (x : Key) → class x ≡ c + 1 → is_of class c x ≡ true
+of-own class c x is = eq-eqb (class x) (c + 1) is
+
+pub all-unique : (class : Key → ℕ) (all : List Key) (k : ℕ) (x : Key) (positions : List Position) → class x ≡ 0 → k < length all → x ≡ key_at all k → AreAt class all k positions → AreAt class all (k + 1) positions
+all-unique class all k x positions none lt is was = record {
+  count = was.count;
+  each = λ c d in_classes. at-unique (is_of class c) all k x (get_or positions c d) (of-other class c x (λ e. absurd (omega (arith, none, e)))) lt is (was.each c d in_classes);
+}
+
+-- one class went on
+pub one-passed : (class : Key → ℕ) (all : List Key) (k : ℕ) (x : Key) (positions : List Position) (c : ℕ) (new : Position) → class x ≡ c + 1 → k < length all → x ≡ key_at all k → c < CLASSES
+    → AreAt class all k positions → IsAt (is_of class c) all (k + 1) new → AreAt class all (k + 1) (slice_set positions c new)
+one-passed class all k x positions c new own lt is in_all was passed = record {
+  count = length-set positions c new ∙ was.count;
+  each = λ v d in_classes.
+      elim (cases_eq v c) [
+        | inl e ↦
+            let there : c < length positions = omega (arith, in_all, was.count) in
+            let read : get_or (slice_set positions c new) v d ≡ new = ap (λ i. get_or (slice_set positions c new) i d) e ∙ get_or-set_same positions c new d there in
+            subst (λ (p : Position). IsAt (is_of class v) all (k + 1) p) (sym read) (subst (λ i. IsAt (is_of class i) all (k + 1) new) (sym e) passed)
+        | inr ne ↦
+            let read : get_or (slice_set positions c new) v d ≡ get_or positions v d = get_or-set_other positions c v new d ne in
+            subst (λ (p : Position). IsAt (is_of class v) all (k + 1) p) (sym read) (at-unique (is_of class v) all k x (get_or positions v d) (of-other class v x (λ e. ne (omega (arith, own, e)))) lt is (was.each v d in_classes))
+      ];
+}
+
+pub walked-unique : (class : Key → ℕ) (all : List Key) (counts : List ℕ) (from k : ℕ) (x : Key) (n : ℕ) (classes : List Class) (old new : Walk) → class x ≡ 0 → AreClasses class all counts classes → IsNext all counts k x n
+    → IsWalked class all counts from k old → lent new.keys.items ≡ lent old.keys.items ++ x ∷ [] → new.counts.items ≡ old.counts.items ++ n ∷ [] → new.positions ≡ old.positions
+    → IsWalked class all counts from (k + 1) new
+walked-unique class all counts from k x n classes old new none so at was keys totals same =
+    let absent = unique-new class all k x so.once at.within at.same none in
+    let own : n ≡ total (is_key x) all counts = at.count ∙ sym (unique-total class all counts k x so.once so.len at.within at.same none) in
+    walked-new class all counts from k x n old new at.within at.same absent own was keys totals (subst (AreAt class all (k + 1)) (sym same) (all-unique class all k x old.positions none at.within at.same was.here))
 
 -- where the key number of a shared entry is
 pub number-at : (p : Key → Bool) (all : List Key) (counts : List ℕ) (k : ℕ) (x : Key) (n : ℕ) (t : Totals) (here : Position) → p x ≡ true → AreTotalled p all counts t → IsNext all counts k x n
@@ -329,7 +340,7 @@ number-at p all counts k x n t here passes so at was =
       ap (λ is. get_or is here.at 0) so.ids ∙ get_or-map f (filter p all) here.at [] 0 below ∙ ap (λ m. f (key_at (filter p all) m)) was.at ∙ ap f num.here,
     )
 
-filter-more : (p : Key → Bool) (all : List Key) (k : ℕ) (x : Key) → k < length all → x ≡ key_at all k → p x ≡ true → filter p (take (k + 1) all) ≡ filter p (take k all) ++ x ∷ []
+pub filter-more : (p : Key → Bool) (all : List Key) (k : ℕ) (x : Key) → k < length all → x ≡ key_at all k → p x ≡ true → filter p (take (k + 1) all) ≡ filter p (take k all) ++ x ∷ []
 filter-more p all k x lt is passes = ap (filter p) (taken-more all k x lt is) ∙ filter-yes p (take k all) x passes
 
 pub passed-new : (p : Key → Bool) (all : List Key) (counts : List ℕ) (k : ℕ) (x : Key) (n id m : ℕ) (t : Totals) (old new : Position) → p x ≡ true → AreTotalled p all counts t → IsNext all counts k x n
@@ -381,15 +392,11 @@ new-below p all counts k x n id t here passes so at was number =
     omega (arith, number, (number-at p all counts k x n t here passes so at was).1, num.there, ap length so.totals, length-map names f)
 
 -- ---- a walk that begins
-pub at-start : (p : Key → Bool) (all : List Key) (here : Position) → here.at ≡ 0 → here.next ≡ 0 → IsAt p all 0 here
-unfolding distinct
-at-start p all here at next = record { at = at; next = next }
-
-pub start : (p : Key → Bool) (all : List Key) (counts : List ℕ) (k : ℕ) (here : Position) (walk : Walk) → IsStart here walk → IsAt p all k here → IsWalked p all counts k k walk
-start p all counts k here walk so was =
+pub start : (class : Key → ℕ) (all : List Key) (counts : List ℕ) (k : ℕ) (positions : List Position) (walk : Walk) → IsStart positions walk → AreAt class all k positions → IsWalked class all counts k k walk
+start class all counts k positions walk so was =
     let before = distinct (take k all) in
     record {
       keys = ap (λ ks. before ++ ks) so.keys ∙ append-nil before;
       totals = ap (λ ns. totals_of before all counts ++ ns) so.counts ∙ append-nil (totals_of before all counts);
-      here = subst (IsAt p all k) (sym so.same) was;
+      here = subst (AreAt class all k) (sym so.same) was;
     }

@@ -2,11 +2,13 @@
 use Rattle.std.specs.Prelude.{◌≡◌, ◌<◌, ◌≤◌, ℕ, List, ◌∷◌, length, slice_index, slice_range}
 use Rattle.key_index.specs.Keys.{Key}
 
--- keys, the count of each, and how many of them the parts up to each part's end have
+-- keys, the count of each, how many of them the parts up to each part's end have, and how many of
+-- the parts, the first ones, still have the entries that they are made of
 pub record Parted : Type 0 where
   pub keys : List Key
   pub counts : List ℕ
   pub ends : List ℕ
+  pub left : ℕ
 
 -- what a list with an element for each key has in one part, which begins where the one before ends
 abbrev pub part_at : {X : Type 0} → List ℕ → ℕ → List X → List X

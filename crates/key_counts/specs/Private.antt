@@ -1,7 +1,7 @@
+pub mod Classes
 pub mod Codes
 pub mod Entry
 pub mod Filter
-pub mod Gathered
 pub mod Hashes
 pub mod Parts
 pub mod Prepared

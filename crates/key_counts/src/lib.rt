@@ -12,13 +12,13 @@
 //! Tests: `log_tests`.
 #![tactic(auto)]
 
+mod classes;
 mod counter;
 mod counts;
 mod entry;
 mod filter;
 mod hashes;
 mod merging;
-mod shared;
 mod slots;
 mod twins;
 mod waiting;

@@ -4,24 +4,22 @@ ghost use Rattle.std.specs.Prelude.{◌≡◌, ◌<◌, ◌≤◌, ◌+◌, ◌-
 ghost use Rattle.key_counts.specs.Counts.{total};
 ghost use Rattle.key_counts.specs.Partition.{HasCounts};
 ghost use Rattle.key_counts.specs.Merging.{IsDivided, part_at};
-ghost use Rattle.key_counts.specs.Private.Prepared.{AreBounds, IsBound, IsPrepared, keys_before, totals_before};
-ghost use Rattle.key_counts.specs.Private.Results.{list_of};
-ghost use Rattle.key_counts.specs.Private.Walks.{PassesOver};
+ghost use Rattle.key_counts.specs.Private.Prepared.{AreBounds, HasLeft, IsBound, IsPrepared, ArePositionsAt, keys_before, totals_before};
 ghost use Rattle.key_counts.specs.Segments.{IsSegment, counts_of, is_key, keys_behind, keys_of, merged_counts};
 ghost use Rattle.key_index.specs.Keys.{Key, distinct, lent};
 
+use crate::classes::{Class, Origin, classes_of};
 use crate::counts::KeyCounts;
 use crate::filter::{Place, threads_for};
-use crate::shared::{Origin, Totals, gathered};
-use crate::twins::Twins;
+use crate::twins::{CLASSES, Twins};
 use crate::walk::{Position, Walk};
 use key_index::KeyHash;
 use lane_words::{MOST_RECORDS, Memory};
-use parallel::LEAST_KEYS;
+use parallel::{LEAST_KEYS, collected};
 use std::alloc::Global;
 use std::hash::RandomState;
 use std::marker::Model;
-use std::random::RandomSource;
+use std::snapshot::Snapshot;
 use std::thread::Threads;
 
 /// The new entries of one chunk: those of a worker from code `from` on, below `to`.
@@ -70,15 +68,6 @@ fn len_of(workers: &[KeyCounts], segments: &[Segment]) -> Result<usize, Memory>
     Ok(entries)
 }
 
-/// The largest number of entries of a worker. It only decides how much memory is reserved.
-fn most_entries(workers: &[KeyCounts]) -> usize {
-    let mut most = 0;
-    for w in 0..workers.len() {
-        most = most.max(workers[w].len());
-    }
-    most
-}
-
 /// How the keys of so many entries are placed: in eight cells for each entry, or more.
 fn place_of(hasher: RandomState, entries: usize) -> Place
     requires { entries ≤ MOST_RECORDS }
@@ -97,141 +86,120 @@ pub struct Start {
     /// How many entries stand before. It only decides where parts begin, and how much memory is
     /// reserved.
     entries: usize,
-    /// How far the entries that may share a key are merged there.
-    position: Position,
-}
-
-impl Start {
-    /// How many distinct keys stand before. It only decides how much memory is reserved.
-    fn keys(&self) -> usize {
-        let Position { at, next } = self.position;
-        self.entries.saturating_sub(at).saturating_add(next)
-    }
-
-    /// The start after a segment.
-    fn after(self, twins: &Twins, shared: &Totals, segment: Segment) -> Start
-        requires order { segment.from ≤ segment.to }
-        requires worker { segment.worker < length twins.now.flags.items }
-        requires within { segment.to ≤ length (list_of twins.now.flags.items segment.worker) }
-        requires segment { self.segment < 2 ^ 64 - 1 }
-        ensures segment { result.segment ≡ self.segment + 1 }
-        ensures position { PassesOver shared.now
-            (list_of twins.now.flags.items segment.worker) segment self.position result.position }
-    {
-        let mut position = self.position;
-        position.pass_segment(twins.flags_in(segment.worker), shared, segment);
-        Start {
-            segment: self.segment + 1,
-            entries: self
-                .entries
-                .saturating_add(segment.to.saturating_sub(segment.from)),
-            position,
-        }
-    }
-}
-
-/// How often segments are halved to gather entries: few of them in one thread.
-fn halvings_for(place: &Place) -> u32 {
-    if threads_for(place, 4) < 2 { 0 } else { 2 }
 }
 
 /// Entries of workers, and what a walk over them needs.
 #[derive(Drop)]
-pub struct Prepared<'a> {
-    /// The workers.
-    workers: &'a [KeyCounts],
+pub struct Prepared {
+    /// The workers, each with the first of its entries.
+    workers: Vec<KeyCounts>,
+    /// The workers with all entries, for contracts alone: it takes no memory.
+    whole: Snapshot<Vec<KeyCounts>>,
     /// The segments, in their order.
-    segments: &'a [Segment],
+    segments: Vec<Segment>,
     /// How many bytes of each key are left out.
     skip: usize,
-    /// Which entries may have a twin.
+    /// Which entries may have a twin, and in which class.
     twins: Twins,
-    /// The totals of the keys of these.
-    totals: Totals,
+    /// The entries of each class, merged.
+    classes: Vec<Class>,
 }
 
-impl<'a> Prepared<'a> {
+impl Prepared {
     /// Finds what a walk over the entries of these segments needs.
-    fn new<R: Threads + Sync + RandomSource>(
+    fn new<R: Threads + Sync>(
         rt: &R,
         alloc: Global,
+        hasher: RandomState,
         place: Place,
-        workers: &'a [KeyCounts],
-        segments: &'a [Segment],
+        workers: Vec<KeyCounts>,
+        segments: Vec<Segment>,
         skip: usize,
-    ) -> Result<Prepared<'a>, Memory>
-        requires bound { length (keys_of workers.now segments.now) ≤ MOST_RECORDS }
-        requires segments { All (IsSegment workers.now) segments.now }
-        requires sums { (x : Key) → total (is_key x) (keys_behind skip workers.now segments.now)
-            (counts_of workers.now segments.now) < 2 ^ 64 }
+    ) -> Result<Prepared, Memory>
+        requires segments { All (IsSegment workers.items) segments.items }
+        requires sums { (x : Key) → total (is_key x) (keys_behind skip workers.items segments.items)
+            (counts_of workers.items segments.items) < 2 ^ 64 }
         ensures prepared { IfOk result IsPrepared }
-        ensures workers { IfOk result (λ m. m.workers.now ≡ workers.now) }
-        ensures segments { IfOk result (λ m. m.segments.now ≡ segments.now) }
+        ensures left { IfOk result (λ m. HasLeft m (length m.segments.items)) }
+        ensures workers { IfOk result (λ m. m.whole.value.items ≡ workers.items) }
+        ensures segments { IfOk result (λ m. m.segments.items ≡ segments.items) }
         ensures skip { IfOk result (λ m. m.skip ≡ skip) }
     {
-        are_counted(workers);
-        let halvings = halvings_for(&place);
-        let twins = Twins::of(rt, alloc, place, workers, segments, skip)?;
+        are_counted(workers.as_slice());
+        let threads = threads_for(&place, CLASSES);
+        let twins = Twins::of(rt, alloc, place, workers.as_slice(), segments.as_slice(), skip)?;
         let origin = Origin {
             twins: &twins,
-            workers,
+            workers: workers.as_slice(),
             skip,
         };
-        let shared = gathered(rt, alloc, &origin, segments, halvings)?;
-        let totals = shared.totals(rt, alloc, most_entries(workers).min(shared.keys.len()))?;
+        let found = classes_of(rt, alloc, hasher, &origin, segments.as_slice(), threads)?;
+        let classes = collected(alloc, found)?;
+        let whole = Snapshot::of(&workers);
         Ok(Prepared {
             workers,
+            whole,
             segments,
             skip,
             twins,
-            totals,
+            classes,
         })
     }
 
-    /// Where parts of `LEAST_KEYS` keys or more begin, and after them where the last one ends. No key
-    /// is read. The lists of a part of this size stay in a processor's cache, and their memory is
-    /// used again.
+    /// Where parts of `LEAST_KEYS` entries or more begin, and after them where the last one ends.
+    /// The lists of a part of this size stay in a processor's cache, and their memory is used again.
     fn bounds(&self, alloc: Global) -> Result<Vec<Start>, Memory>
         requires { IsPrepared self.now }
         ensures { IfOk result (λ bounds. AreBounds self.now bounds.items) }
     {
         let mut bounds: Vec<Start> = Vec::new(alloc);
-        let mut here = Start {
-            segment: 0,
-            entries: 0,
-            position: Position { at: 0, next: 0 },
-        };
-        let mut begun = 0;
-        for i in 0..self.segments.len() {
-            if i == 0 || here.keys().saturating_sub(begun) >= LEAST_KEYS {
-                begun = here.keys();
-                bounds.push(here)?;
+        let mut entries: usize = 0;
+        let mut begun: usize = 0;
+        for segment in 0..self.segments.len() {
+            if segment == 0 || entries.saturating_sub(begun) >= LEAST_KEYS {
+                begun = entries;
+                bounds.push(Start { segment, entries })?;
             }
-            here = here.after(&self.twins, &self.totals, self.segments[i]);
+            let Segment { from, to, .. } = self.segments[segment];
+            entries = entries.saturating_add(to.saturating_sub(from));
         }
-        bounds.push(here)?;
+        let segment = self.segments.len();
+        bounds.push(Start { segment, entries })?;
         Ok(bounds)
     }
 
+    /// How far the entries of each class are merged before a segment.
+    fn positions_at(&self, segment: usize) -> [Position; CLASSES]
+        requires prepared { IsPrepared self.now }
+        requires segment { segment ≤ length self.now.segments.items }
+        ensures { ArePositionsAt self.now segment result }
+    {
+        let mut positions = [Position { at: 0, next: 0 }; CLASSES];
+        for class in 0..CLASSES {
+            positions[class] = self.classes[class].starts[segment];
+        }
+        positions
+    }
+
     /// Merges the entries of the segments from one start on, up to another.
-    fn walked(&self, alloc: Global, start: Start, end: Start) -> Result<Merged<'a>, Memory>
+    fn walked(&self, alloc: Global, start: Start, end: Start) -> Result<Merged<'_>, Memory>
         requires prepared { IsPrepared self.now }
         requires start { IsBound self.now start }
         requires end { IsBound self.now end }
         requires order { start.segment ≤ end.segment }
+        requires left { HasLeft self.now end.segment }
         ensures keys { IfOk result (λ m.
             keys_before self.now start ++ lent m.keys.items ≡ keys_before self.now end) }
         ensures counts { IfOk result (λ m.
             totals_before self.now start ++ m.counts.items ≡ totals_before self.now end) }
         ensures len { IfOk result (λ m. length (lent m.keys.items) ≡ length m.counts.items) }
     {
-        let capacity = end.keys().saturating_sub(start.keys());
-        let mut walk = Walk::new(alloc, capacity, start.position)?;
-        let workers = self.workers;
+        let capacity = end.entries.saturating_sub(start.entries);
+        let mut walk = Walk::new(alloc, capacity, self.positions_at(start.segment))?;
         for i in start.segment..end.segment {
             let segment = self.segments[i];
-            let entries = &workers[segment.worker];
-            walk.take_segment(&self.twins, &self.totals, entries, segment, self.skip)?;
+            let entries = &self.workers[segment.worker];
+            walk.take_segment(&self.twins, &self.classes, entries, segment, self.skip)?;
         }
         let Walk { keys, counts, .. } = walk;
         Ok(Merged { keys, counts })
@@ -240,58 +208,69 @@ impl<'a> Prepared<'a> {
 
 /// The entries of segments, prepared to be merged by key, in parts or as a whole.
 #[derive(Drop)]
-pub struct Merging<'a> {
+pub struct Merging {
     /// The entries.
-    prepared: Prepared<'a>,
+    prepared: Prepared,
     /// Where each part begins, and after them where the last one ends.
     bounds: Vec<Start>,
+    /// How many of the parts still have their entries.
+    left: usize,
 }
 
-impl<'a> Model for Merging<'a> {
-    ghost use Rattle.std.specs.Prelude.{drop, map, length};
+impl Model for Merging {
+    ghost use Rattle.std.specs.Prelude.{◌<◌, drop, map, length, slice_index_or};
     ghost use Rattle.key_index.specs.Keys.{distinct};
     ghost use Rattle.key_counts.specs.Merging.{Parted};
-    ghost use Rattle.key_counts.specs.Private.Prepared.{AreBounds, IsPrepared, keys_before};
-    ghost use Rattle.key_counts.specs.Segments.{keys_behind, merged_counts};
+    ghost use Rattle.key_counts.specs.Private.Prepared.{AreBounds, HasLeft, IsPrepared, all_keys, keys_before};
+    ghost use Rattle.key_counts.specs.Segments.{merged_counts};
+    ghost use Rattle.key_counts.specs.declared.merging.Start.{Start};
 
     ghost Value = { Parted };
 
     ghost view = { λ s. record {
-      keys = distinct (keys_behind s.prepared.skip s.prepared.workers.now s.prepared.segments.now);
-      counts = merged_counts s.prepared.skip s.prepared.workers.now s.prepared.segments.now;
+      keys = distinct (all_keys s.prepared);
+      counts = merged_counts s.prepared.skip s.prepared.whole.value.items s.prepared.segments.items;
       ends = drop 1 (map (λ b. length (keys_before s.prepared b)) s.bounds.items);
+      left = s.left;
     } };
 
-    ghost invariant = { λ s. IsPrepared s.prepared × AreBounds s.prepared s.bounds.items };
+    ghost invariant = { λ s. IsPrepared s.prepared × AreBounds s.prepared s.bounds.items
+        × (s.left < length s.bounds.items)
+        × ((d : Start) → HasLeft s.prepared (slice_index_or s.bounds.items s.left d).segment) };
 }
 
-impl<'a> Merging<'a> {
+impl Merging {
     /// Prepares the entries of these segments to be merged by key, in the order of the segments.
     /// The first `skip` bytes of each key are left out: what stands before a key does not make it
     /// another. Keys are hashed by this hasher, which a stranger must not know. Fails with `Memory`
-    /// if an allocation or the random source failed, and if there are more than `MOST_RECORDS`
-    /// entries.
-    pub fn new<R: Threads + Sync + RandomSource>(
+    /// if an allocation failed, and if there are more than `MOST_RECORDS` entries.
+    pub fn new<R: Threads + Sync>(
         rt: &R,
         alloc: Global,
         hasher: RandomState,
-        workers: &'a [KeyCounts],
-        segments: &'a [Segment],
+        workers: Vec<KeyCounts>,
+        segments: Vec<Segment>,
         skip: usize,
-    ) -> Result<Merging<'a>, Memory>
-        requires segments { All (IsSegment workers.now) segments.now }
-        requires sums { (x : Key) → total (is_key x) (keys_behind skip workers.now segments.now)
-            (counts_of workers.now segments.now) < 2 ^ 64 }
+    ) -> Result<Merging, Memory>
+        requires segments { All (IsSegment workers.items) segments.items }
+        requires sums { (x : Key) → total (is_key x) (keys_behind skip workers.items segments.items)
+            (counts_of workers.items segments.items) < 2 ^ 64 }
         ensures keys { IfOk result
-            (λ m. m.keys ≡ distinct (keys_behind skip workers.now segments.now)) }
+            (λ m. m.keys ≡ distinct (keys_behind skip workers.items segments.items)) }
         ensures counts { IfOk result
-            (λ m. m.counts ≡ merged_counts skip workers.now segments.now) }
+            (λ m. m.counts ≡ merged_counts skip workers.items segments.items) }
+        ensures left { IfOk result (λ m. m.left ≡ length m.ends) }
     {
-        let entries = len_of(workers, segments)?;
+        let entries = len_of(workers.as_slice(), segments.as_slice())?;
         let place = place_of(hasher, entries);
-        let prepared = Prepared::new(rt, alloc, place, workers, segments, skip)?;
+        let prepared = Prepared::new(rt, alloc, hasher, place, workers, segments, skip)?;
         let bounds = prepared.bounds(alloc)?;
-        Ok(Merging { prepared, bounds })
+        let left = bounds.len() - 1;
+        Ok(Merging {
+            prepared,
+            bounds,
+            left,
+        })
     }
 
     /// How many parts there are, each of which can be merged by itself.
@@ -302,10 +281,11 @@ impl<'a> Merging<'a> {
         self.bounds.len() - 1
     }
 
-    /// Merges one part: its keys are those that no part before it has, in the order of their first
-    /// appearance.
-    pub fn part(&self, alloc: Global, i: usize) -> Result<Merged<'a>, Memory>
-        requires { i < length self.now.ends }
+    /// Merges one part that still has its entries: its keys are those that no part before it has,
+    /// in the order of their first appearance.
+    pub fn part(&self, alloc: Global, i: usize) -> Result<Merged<'_>, Memory>
+        requires within { i < length self.now.ends }
+        requires left { i < self.now.left }
         ensures keys { IfOk result
             (λ m. lent m.keys.items ≡ part_at self.now.ends i self.now.keys) }
         ensures counts { IfOk result
@@ -317,7 +297,8 @@ impl<'a> Merging<'a> {
     }
 
     /// Merges all parts together.
-    pub fn all(&self, alloc: Global) -> Result<Merged<'a>, Memory>
+    pub fn all(&self, alloc: Global) -> Result<Merged<'_>, Memory>
+        requires { self.now.left ≡ length self.now.ends }
         ensures keys { IfOk result (λ m. lent m.keys.items ≡ self.now.keys) }
         ensures counts { IfOk result (λ m. m.counts.items ≡ self.now.counts) }
         ensures len { IfOk result (λ m. length (lent m.keys.items) ≡ length m.counts.items) }

@@ -1,18 +1,20 @@
 //! Entries merged in their order.
 
-ghost use Rattle.std.specs.Prelude.{◌≡◌, ◌≤◌, ℕ, Bool, List, IfOk, OnOk, false, length, true};
+ghost use Rattle.std.specs.Prelude.{◌≡◌, ◌≤◌, ◌<◌, ◌+◌, ℕ, List, IfOk, OnOk, length};
 ghost use Rattle.key_counts.specs.Private.Parts.{IsPartOf};
-ghost use Rattle.key_counts.specs.Private.Twins.{HasFlagsOf, may_have_twin};
-ghost use Rattle.key_counts.specs.Private.Walks.{IsStart, Passes, PassesOver, WalksOn, WalksOver};
+ghost use Rattle.key_counts.specs.Private.Twins.{HasClassesOf, class_in};
+ghost use Rattle.key_counts.specs.Private.Walks.{IsStart, Passes, WalksOn, WalksOver};
+ghost use Rattle.key_counts.specs.declared.classes.Class.{Class};
+ghost use Rattle.key_index.specs.Keys.{Key};
 
+use crate::classes::{Class, Totals};
 use crate::counts::KeyCounts;
 use crate::merging::{Segment, behind};
-use crate::shared::Totals;
-use crate::twins::Twins;
+use crate::twins::{CLASSES, Twins};
 use lane_words::Memory;
 use std::alloc::Global;
 
-/// How far the entries that may share a key are merged.
+/// How far the entries of a class are merged.
 #[derive(Clone, Copy, Debug)]
 pub struct Position {
     /// How many of them came.
@@ -22,8 +24,8 @@ pub struct Position {
 }
 
 impl Position {
-    /// Passes an entry that may share its key. Returns the total of the key if it is new: then its
-    /// number is the next.
+    /// Passes an entry of the class. Returns the total of its key if it is new: then its number is
+    /// the next.
     #[inline(always)]
     fn pass(&mut self, shared: &Totals) -> Option<u64>
         ensures { Passes shared.now self.old self.new result }
@@ -39,19 +41,6 @@ impl Position {
         self.next += 1;
         Some(shared.totals[id])
     }
-
-    /// Passes the entries of a segment, by the flags of its worker's entries.
-    pub fn pass_segment(&mut self, flags: &[bool], shared: &Totals, segment: Segment)
-        requires order { segment.from ≤ segment.to }
-        requires within { segment.to ≤ length flags.now }
-        ensures { PassesOver shared.now flags.now segment self.old self.new }
-    {
-        for code in segment.from..segment.to {
-            if flags[code] {
-                self.pass(shared);
-            }
-        }
-    }
 }
 
 /// Entries merged so far.
@@ -61,38 +50,54 @@ pub struct Walk<'a> {
     pub keys: Vec<&'a [u8]>,
     /// How many records each key has.
     pub counts: Vec<u64>,
-    /// How far the entries that may share a key are merged.
-    position: Position,
+    /// How far the entries of each class are merged.
+    positions: [Position; CLASSES],
 }
 
 impl<'a> Walk<'a> {
-    /// Nothing from this position on yet, with memory for so many keys.
-    pub fn new(alloc: Global, capacity: usize, position: Position) -> Result<Walk<'a>, Memory>
-        ensures { IfOk result (IsStart position) }
+    /// Nothing from these positions on yet, with memory for so many keys.
+    pub fn new(
+        alloc: Global,
+        capacity: usize,
+        positions: [Position; CLASSES],
+    ) -> Result<Walk<'a>, Memory>
+        ensures { IfOk result (IsStart positions) }
     {
         Ok(Walk {
             keys: Vec::with_capacity(alloc, capacity)?,
             counts: Vec::with_capacity(alloc, capacity)?,
-            position,
+            positions,
         })
     }
 
     /// Takes an entry that shares its key with no other.
     #[inline(always)]
-    fn take_unique(&mut self, key: &'a [u8], count: u64, shared: &Totals) -> Result<(), Memory>
-        ensures { OnOk result (WalksOn false shared.now key.now count self.old self.new) }
+    fn take_unique(&mut self, key: &'a [u8], count: u64) -> Result<(), Memory>
+        ensures { OnOk result ((classes : List Class)
+            → WalksOn 0 classes key.now count self.old self.new) }
     {
         self.keys.push(key)?;
         self.counts.push(count)?;
         Ok(())
     }
 
-    /// Takes an entry that may share its key.
+    /// Takes an entry of a class.
     #[inline(always)]
-    fn take_shared(&mut self, key: &'a [u8], shared: &Totals) -> Result<(), Memory>
-        ensures { OnOk result ((n : ℕ) → WalksOn true shared.now key.now n self.old self.new) }
+    fn take_shared(
+        &mut self,
+        key: &'a [u8],
+        class: usize,
+        classes: &[Class],
+    ) -> Result<(), Memory>
+        requires class { class < CLASSES }
+        requires classes { length classes.now ≡ CLASSES }
+        ensures { OnOk result ((n : ℕ)
+            → WalksOn (class + 1) classes.now key.now n self.old self.new) }
     {
-        if let Some(total) = self.position.pass(shared) {
+        let mut position = self.positions[class];
+        let found = position.pass(&classes[class].totals);
+        self.positions[class] = position;
+        if let Some(total) = found {
             self.keys.push(key)?;
             self.counts.push(total)?;
         }
@@ -103,23 +108,26 @@ impl<'a> Walk<'a> {
     pub fn take_segment(
         &mut self,
         twins: &Twins,
-        shared: &Totals,
+        classes: &[Class],
         entries: &'a KeyCounts,
         segment: Segment,
         skip: usize,
     ) -> Result<(), Memory>
         requires part { IsPartOf entries.now segment }
-        requires flags { HasFlagsOf twins.now skip entries.now segment.worker }
-        ensures { OnOk result (WalksOver (may_have_twin twins.now) shared.now skip entries.now
+        requires own { HasClassesOf twins.now skip entries.now segment.worker }
+        requires bound { (x : Key) → class_in twins.now x ≤ CLASSES }
+        requires classes { length classes.now ≡ CLASSES }
+        ensures { OnOk result (WalksOver (class_in twins.now) classes.now skip entries.now
             segment self.old self.new) }
     {
-        let flags = twins.flags_in(segment.worker);
+        let own = twins.classes_in(segment.worker);
         for code in segment.from..segment.to {
             let key = behind(entries.key(code), skip);
-            if flags[code] {
-                self.take_shared(key, shared)?;
+            let class = usize::from(own[code]);
+            if class == 0 {
+                self.take_unique(key, entries.count(code))?;
             } else {
-                self.take_unique(key, entries.count(code), shared)?;
+                self.take_shared(key, class - 1, classes)?;
             }
         }
         Ok(())

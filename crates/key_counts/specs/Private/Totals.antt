@@ -1,7 +1,5 @@
 -- Counts added up by key number.
-use Rattle.std.specs.Prelude.{◌≡◌, ◌<◌, ℕ, ◌+◌, ◌^◌, ◌==◌, List, [], ◌∷◌, cond, length, map, slice_index}
-use Rattle.key_index.specs.Keys.{Key, distinct, id_of}
-use Rattle.key_counts.specs.declared.shared.KeyNumbers.{KeyNumbers}
+use Rattle.std.specs.Prelude.{◌≡◌, ◌<◌, ℕ, ◌+◌, ◌^◌, ◌==◌, List, [], ◌∷◌, cond, length, slice_index}
 
 -- the sum of the counts of the entries with this key number
 unfoldable pub added : List ℕ → List ℕ → ℕ → ℕ
@@ -23,8 +21,3 @@ AreAdded old ids counts new =
 pub record AreTotals (keys : ℕ) (ids counts totals : List ℕ) : Type 0 where
   pub len : length totals ≡ keys
   pub each : (id : ℕ) → id < keys → slice_index totals id ≡ added ids counts id
-
--- the key numbers of these keys, in the order of their first appearance, and how many they are
-pub record AreNumbered (keys : List Key) (numbered : KeyNumbers) : Type 0 where
-  pub ids : numbered.ids.items ≡ map (id_of (distinct keys)) keys
-  pub count : numbered.count ≡ length (distinct keys)

@@ -1,6 +1,6 @@
 use Rattle.std.proofs.Common.{◌≡◌, ◌+◌, ◌<◌, ℕ, drop, get_or, length}
 use Rattle.key_counts.specs.Private.Totals.{added}
-use Rattle.key_counts.proofs.shared.add_counts.Given as goal
+use Rattle.key_counts.proofs.classes.add_counts.Given as goal
 
 abbrev pub invariant-loop-k : goal.invariant-loop-k
 invariant-loop-k l =

@@ -1,6 +1,6 @@
 use Rattle.std.proofs.Common.{◌<◌, ◌∙◌, arith, get_or, drop, length}
 use Rattle.key_counts.proofs.Totals.{added-at, added-end, added-fits}
-use Rattle.key_counts.proofs.shared.add_counts.Goals as goal
+use Rattle.key_counts.proofs.classes.add_counts.Goals as goal
 
 pub overflow_add-totals : goal.overflow_add-totals
 overflow_add-totals c =
