@@ -169,6 +169,13 @@ impl KeyCounts {
         }
     }
 
+    /// Makes room in the slots before a round, as `Slots::prepare` says.
+    pub(crate) fn prepare(&mut self, most: usize) -> Result<(), Memory>
+        ensures { self.new ≡ self.old }
+    {
+        self.slots.prepare(self.alloc, most)
+    }
+
     /// A length that no key exceeds.
     pub fn longest(&self) -> usize
         ensures { All (λ key. length key ≤ result) self.now.keys }
