@@ -70,6 +70,15 @@ impl KeyCounter {
         counts.without_slots()
     }
 
+    /// Makes room for more keys before a round, in which several threads take keys and at whose end
+    /// they wait for each other. `most` is how many entries the counter with most of them has. All
+    /// then grow in one round, side by side. Fails with `Memory` if an allocation failed.
+    pub fn prepare(&mut self, most: usize) -> Result<(), Memory>
+        ensures { self.new ≡ self.old }
+    {
+        self.counts.prepare(most)
+    }
+
     /// Forgets the keys that wait.
     pub fn forget_waiting(&mut self)
         ensures entries { self.new.entries ≡ self.old.entries }

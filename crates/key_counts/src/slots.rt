@@ -9,6 +9,9 @@ use std::alloc::Global;
 /// The number of slots of a new table.
 const FIRST_SLOTS: usize = 1 << 12;
 
+/// For how many rounds slots must have room if they are not to grow with those of other threads.
+const ROUNDS: usize = 4;
+
 /// The number of values of half a slot.
 const HALF: u64 = 1 << 32;
 
@@ -20,6 +23,8 @@ pub struct Slots {
     slots: Vec<u64>,
     /// How many of them are filled.
     filled: usize,
+    /// How many entries the thread with most of them had when `prepare` was last called.
+    most: usize,
 }
 
 /// The slot of this index, counted round from the first; an empty one if there are no slots.
@@ -59,6 +64,7 @@ impl Slots {
         Ok(Slots {
             slots: vec![in alloc; 0u64; FIRST_SLOTS]?,
             filled: 0,
+            most: 0,
         })
     }
 
@@ -67,6 +73,7 @@ impl Slots {
         Slots {
             slots: Vec::new(alloc),
             filled: 0,
+            most: 0,
         }
     }
 
@@ -87,10 +94,44 @@ impl Slots {
         Some(((slot / HALF) as u32, low - 1))
     }
 
+    /// Swaps the slots of two indices, counted round from the first.
+    #[inline(always)]
+    pub fn swap(&mut self, one: usize, other: usize) {
+        let mask = self.slots.len().wrapping_sub(1);
+        let (one, other) = (one & mask, other & mask);
+        if one < self.slots.len() && other < self.slots.len() {
+            self.slots.swap(one, other);
+        }
+    }
+
     /// The first slot for this hash.
     #[inline(always)]
     pub fn first(&self, hash: u32) -> u64 {
         slot_at(self.slots.as_slice(), hash as usize)
+    }
+
+    /// How many slots may be filled. A quarter of them stays empty.
+    fn limit(&self) -> usize {
+        self.slots.len() / 4 * 3
+    }
+
+    /// Makes room before a round, in which several threads fill slots of their own and at whose end
+    /// they wait for each other. `most` is how many entries the thread with most of them has.
+    ///
+    /// While the slots of one thread grow, it takes no keys, and in the end the others wait for it.
+    /// If that came to each thread in another round, they would wait as often as there are threads.
+    /// So the slots of all grow in one round, side by side: before the first of them are full, if as
+    /// many entries come as in the last round, and an eighth more. Slots that have room for `ROUNDS`
+    /// rounds do not grow: their thread hardly gets new keys.
+    pub fn prepare(&mut self, alloc: Global, most: usize) -> Result<(), Memory> {
+        let came = most.saturating_sub(self.most);
+        self.most = most;
+        let soon = most.saturating_add(came).saturating_add(came / 8);
+        let later = self.filled.saturating_add(came.saturating_mul(ROUNDS));
+        if soon > self.limit() && later > self.limit() {
+            self.grow(alloc)?;
+        }
+        Ok(())
     }
 
     /// Twice as many slots.
@@ -106,11 +147,11 @@ impl Slots {
         Ok(())
     }
 
-    /// Says that the entry of this code has a key of this hash. A quarter of the slots stay empty.
+    /// Says that the entry of this code has a key of this hash.
     pub fn insert(&mut self, alloc: Global, hash: u32, code: u32) -> Result<(), Memory>
         requires { code < 2 ^ 32 - 1 }
     {
-        if self.filled >= self.slots.len() / 4 * 3 {
+        if self.filled >= self.limit() {
             self.grow(alloc)?;
         }
         self.filled = self.filled.saturating_add(1);

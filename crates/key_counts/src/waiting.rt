@@ -59,27 +59,25 @@ impl WaitingKey {
     }
 }
 
-/// The first slots that may lead to the first of these keys.
+/// Reads the first slots that may lead to the first of these keys. They are written where the caller
+/// wants them: an array that is returned is copied, some 256 bytes twice.
 #[inline(always)]
-fn first_slots(counts: &KeyCounts, waiting: &[WaitingKey]) -> [u64; MOST_WAITING] {
-    let mut slots = [0; MOST_WAITING];
+fn read_first_slots(counts: &KeyCounts, waiting: &[WaitingKey], slots: &mut [u64; MOST_WAITING]) {
     for i in 0..waiting.len().min(MOST_WAITING) {
         slots[i] = waiting[i].first_slot(counts);
     }
-    slots
 }
 
-/// The codes of the entries that most likely have the first of these keys. All slots are read
-/// before any entry, so that a processor need not wait for one before it asks for the next. They
-/// are read in a loop of few instructions, of which many turns are under way at once.
+/// Reads from these slots the codes of the entries that most likely have the first of these keys.
 #[inline(always)]
-fn likely_codes(counts: &KeyCounts, waiting: &[WaitingKey]) -> [u32; MOST_WAITING] {
-    let slots = first_slots(counts, waiting);
-    let mut codes = [u32::MAX; MOST_WAITING];
+fn read_likely_codes(
+    waiting: &[WaitingKey],
+    slots: &[u64; MOST_WAITING],
+    codes: &mut [u32; MOST_WAITING],
+) {
     for i in 0..waiting.len().min(MOST_WAITING) {
         codes[i] = waiting[i].likely_code(slots[i]);
     }
-    codes
 }
 
 /// Counts a record of each of these keys.
@@ -87,7 +85,13 @@ fn likely_codes(counts: &KeyCounts, waiting: &[WaitingKey]) -> [u32; MOST_WAITIN
 pub fn count_all(counts: &mut KeyCounts, waiting: &[WaitingKey]) -> Result<(), Memory>
     ensures { OnOk result (Takes counts.old counts.new waiting.now) }
 {
-    let codes = likely_codes(counts, waiting);
+    // All slots are read before any entry, so that a processor need not wait for one before it asks
+    // for the next. They are read in a loop of few instructions, of which many turns are under way
+    // at once.
+    let mut slots = [0; MOST_WAITING];
+    read_first_slots(counts, waiting, &mut slots);
+    let mut codes = [u32::MAX; MOST_WAITING];
+    read_likely_codes(waiting, &slots, &mut codes);
     for i in 0..waiting.len() {
         waiting[i].count_in(counts, codes[i % MOST_WAITING])?;
     }

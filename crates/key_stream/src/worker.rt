@@ -67,6 +67,15 @@ impl<'a> Chunks<'a> {
     }
 }
 
+/// What the workers of a round have in common.
+#[derive(Clone, Copy)]
+struct Common<'a> {
+    /// The index of the next chunk that none has taken.
+    next: &'a AtomicUsize,
+    /// How many entries the worker with most of them had before the round.
+    most: usize,
+}
+
 /// How the chunks of a file are read.
 #[derive(Clone, Copy)]
 pub struct Layout<'a> {
@@ -139,12 +148,15 @@ impl Worker {
     }
 
     /// Takes chunks until there are no more, or one has a fault.
-    fn work(&mut self, alloc: Global, chunks: Chunks<'_>, next: &AtomicUsize, layout: &Layout<'_>)
+    fn work(&mut self, alloc: Global, chunks: Chunks<'_>, common: Common<'_>, layout: &Layout<'_>)
         requires { length chunks.texts.now ≤ length chunks.widths.now }
         ensures { WorksBy layout.now chunks.entry self.old self.new }
     {
+        if self.counter.prepare(common.most).is_err() {
+            return;
+        }
         for _ in 0..chunks.texts.len() {
-            let chunk = next.fetch_add(1, Ordering::SeqCst);
+            let chunk = common.next.fetch_add(1, Ordering::SeqCst);
             if chunk >= chunks.texts.len() {
                 return;
             }
@@ -165,7 +177,7 @@ fn work_sequential<R: Threads + Sync>(
     alloc: Global,
     workers: &mut [Worker],
     chunks: Chunks<'_>,
-    next: &AtomicUsize,
+    common: Common<'_>,
     layout: &Layout<'_>,
 )
     requires { length chunks.texts.now ≤ length chunks.widths.now }
@@ -177,7 +189,7 @@ fn work_sequential<R: Threads + Sync>(
         workers,
         1,
         &|_, worker: &mut Worker| {
-            worker.work(alloc, chunks, next, layout);
+            worker.work(alloc, chunks, common, layout);
         },
     );
 }
@@ -190,7 +202,7 @@ fn work_parallel<R: Threads + Sync, A: ReadAhead>(
     alloc: Global,
     workers: &mut [Worker],
     chunks: Chunks<'_>,
-    next: &AtomicUsize,
+    common: Common<'_>,
     layout: &Layout<'_>,
     ahead: &mut A,
 )
@@ -206,7 +218,7 @@ fn work_parallel<R: Threads + Sync, A: ReadAhead>(
     };
     thread::join_mut(
         rt,
-        &mut || worker.work(alloc, chunks, next, layout),
+        &mut || worker.work(alloc, chunks, common, layout),
         &mut ||
             requires ahead { A.can_read ahead.now }
             requires widths { length chunks.texts.now ≤ length chunks.widths.now }
@@ -214,8 +226,17 @@ fn work_parallel<R: Threads + Sync, A: ReadAhead>(
             ensures each { WorkBy layout.entry.now chunks.entry workers.entry.now
                 workers.exit.now }
             ensures ahead { A.has_read ahead.entry.now ahead.exit.now }
-        { work_parallel(rt, alloc, workers, chunks, next, layout, ahead) },
+        { work_parallel(rt, alloc, workers, chunks, common, layout, ahead) },
     );
+}
+
+/// How many entries the worker with most of them has.
+fn most_entries(workers: &[Worker]) -> usize {
+    let mut most = 0;
+    for i in 0..workers.len() {
+        most = workers[i].counter.len().max(most);
+    }
+    most
 }
 
 /// The workers take chunks, and the calling thread reads ahead. It takes no chunk itself, for the
@@ -236,10 +257,12 @@ pub fn work_and_read<R: Threads + Sync, A: ReadAhead>(
     ensures each { WorkBy layout.now chunks.entry workers.old workers.new }
     ensures ahead { A.has_read ahead.old ahead.new }
 {
+    let most = most_entries(workers);
+    let common = Common { next, most };
     if workers.len() > 1 {
-        work_parallel(rt, alloc, workers, chunks, next, layout, ahead);
+        work_parallel(rt, alloc, workers, chunks, common, layout, ahead);
         return;
     }
     ahead.read();
-    work_sequential(rt, alloc, workers, chunks, next, layout);
+    work_sequential(rt, alloc, workers, chunks, common, layout);
 }
