@@ -1,8 +1,8 @@
 pub mod Bounds
 pub mod Bytes
 pub mod Chosen
+pub mod Classes
 pub mod Divided
-pub mod Flags
 pub mod Gatherings
 pub mod Growing
 pub mod Made
