@@ -1,6 +1,7 @@
 pub mod Bounds
 pub mod Bytes
 pub mod Chosen
+pub mod Classes
 pub mod Divided
 pub mod First
 pub mod Growing
@@ -8,7 +9,6 @@ pub mod Made
 pub mod Members
 pub mod Marks
 pub mod Partition
-pub mod OwnClasses
 pub mod Parts
 pub mod Recorded
 pub mod Rounds

@@ -50,7 +50,7 @@ pub struct Filter {
 
 /// The part of the cell of a hash.
 #[inline(always)]
-fn part_of(hash: u64) -> usize
+pub fn part_of(hash: u64) -> usize
     ensures { result ≡ part_of hash }
 {
     (hash >> 31) as usize % PARTS

@@ -1,29 +1,44 @@
--- Which entries may have a twin, and the classes of their keys.
-use Rattle.std.specs.Prelude.{◌≡◌, ◌<◌, ◌≤◌, ◌+◌, ◌/◌, ◌%◌, ◌^◌, ℕ, List, Vec, count_by, drop, if◌then◌else◌, length, slice_index}
+-- Which entries may have a twin, and in which classes these fall.
+use Rattle.std.specs.Prelude.{◌≡◌, ◌<◌, ◌≤◌, ◌+◌, ◌%◌, ℕ, List, Vec, count_by, drop, if◌then◌else◌, length, slice_index}
 use Rattle.std.specs.Global.{Global}
 use Rattle.std.specs.Str.{bytes_eq}
 use Rattle.key_index.specs.Keys.{Key, key_at}
 use Rattle.key_index.specs.Private.KeyHash.{hash_of}
 use Rattle.key_counts.specs.Counts.{Entries}
-use Rattle.key_counts.specs.Private.Filter.{is_shared}
+use Rattle.key_counts.specs.Private.Filter.{is_shared, part_of}
 use Rattle.key_counts.specs.Private.Results.{AreMade, list_of}
 use Rattle.key_counts.specs.Segments.{entries_of}
 use Rattle.key_counts.specs.declared.filter.Filter.{Filter}
 use Rattle.key_counts.specs.declared.twins.TheConstants.{CLASSES}
 use Rattle.key_counts.specs.declared.twins.Twins.{Twins}
 
--- the class of a key, counted from 1, or 0 if it has no twin
+-- 0 if a key has no twin, or else 1 more than the class of its hash
 unfoldable pub class_of : Filter → Key → ℕ
 class_of filter key =
-    if is_shared filter key then 1 + hash_of filter.place.hasher key / 2 ^ 31 % CLASSES else 0
+    if is_shared filter key then 1 + part_of (hash_of filter.place.hasher key) % CLASSES else 0
 
--- the class of a key
+-- the same by the filter of twins
 abbrev pub class_in : Twins → Key → ℕ
 class_in twins key = class_of twins.filter.value key
 
--- a key of no class is among these once at most
+-- a key of class 0 is among these once at most
 abbrev pub IsOnce : (Key → ℕ) → List Key → Type 0
 IsOnce class keys = (x : Key) → class x ≡ 0 → count_by (bytes_eq x) keys ≤ 1
+
+-- the class of each of these hashes' keys
+pub record AreClassesBy (filter : Filter) (hashes classes : List ℕ) : Type 0 where
+  pub len : length classes ≡ length hashes
+  pub each : (code : ℕ) (key : Key) → code < length hashes
+      → slice_index hashes code ≡ hash_of filter.place.hasher key
+      → slice_index classes code ≡ class_of filter key
+
+-- the same of the hashes of the worker of this index
+abbrev pub AreClassesIn : Filter → List (Vec ℕ Global) → ℕ → List ℕ → Type 0
+AreClassesIn filter hashes w classes = AreClassesBy filter (list_of hashes w) classes
+
+-- a list of classes for each list of hashes
+abbrev pub AreClassed : Filter → List (Vec ℕ Global) → List (Vec ℕ Global) → Type 0
+AreClassed filter hashes lists = AreMade (length hashes) (AreClassesIn filter hashes) lists
 
 -- the class of each of these entries' keys without so many of its first bytes
 pub record AreClassesOf (class : Key → ℕ) (skip : ℕ) (entries : Entries) (classes : List ℕ)
