@@ -1,7 +1,7 @@
 pub mod Bounds
 pub mod Bytes
 pub mod Chosen
-pub mod Classes
+pub mod KeyClasses
 pub mod Divided
 pub mod First
 pub mod Growing

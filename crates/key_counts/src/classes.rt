@@ -210,7 +210,12 @@ fn class_of(
         counts,
         starts,
     } = members_of(alloc, hasher, origin, segments, class)?;
-    let totals = totals_of_ids(alloc, ids.as_slice(), counts.as_slice(), keys.count() as usize)?;
+    let totals = totals_of_ids(
+        alloc,
+        ids.as_slice(),
+        counts.as_slice(),
+        keys.count() as usize,
+    )?;
     Ok(Class {
         totals: Totals { ids, totals },
         starts,

@@ -1,6 +1,6 @@
 //! Keys and how often each came.
 
-ghost use Rattle.std.specs.Prelude.{◌≡◌, ◌<◌, ◌≤◌, ◌^◌, ◌∷◌, [], All, IfOk, IfSome, OnErr, OnOk, length, slice_index_or};
+ghost use Rattle.std.specs.Prelude.{◌≡◌, ◌<◌, ◌≤◌, ◌^◌, ◌∷◌, [], All, IfOk, IfSome, OnErr, OnOk, length, slice_index_or, take};
 ghost use Rattle.key_index.specs.Keys.{key_at};
 ghost use Rattle.key_counts.specs.Counts.{Takes, no_entries};
 ghost use Rattle.key_counts.specs.Private.Codes.{with_code};
@@ -174,6 +174,17 @@ impl KeyCounts {
         ensures { self.new ≡ self.old }
     {
         self.slots.prepare(self.alloc, most)
+    }
+
+    /// Leaves the first of the entries, so many at most, and frees the memory of the others. What
+    /// the records' codes were is forgotten.
+    pub(crate) fn truncate(&mut self, len: usize)
+        ensures keys { self.new.keys ≡ take len self.old.keys }
+        ensures counts { self.new.counts ≡ take len self.old.counts }
+    {
+        self.codes.clear();
+        self.entries.truncate(len);
+        self.entries.shrink_to_fit();
     }
 
     /// A length that no key exceeds.

@@ -1,10 +1,10 @@
 //! The entries of several workers, merged: their distinct keys, and the totals of these.
 
-ghost use Rattle.std.specs.Prelude.{◌≡◌, ◌<◌, ◌≤◌, ◌+◌, ◌-◌, ◌^◌, ◌++◌, All, IfOk, drop, length};
+ghost use Rattle.std.specs.Prelude.{◌≡◌, ◌<◌, ◌≤◌, ◌+◌, ◌-◌, ◌^◌, ◌++◌, All, IfOk, drop, length, min};
 ghost use Rattle.key_counts.specs.Counts.{total};
 ghost use Rattle.key_counts.specs.Partition.{HasCounts};
 ghost use Rattle.key_counts.specs.Merging.{IsDivided, part_at};
-ghost use Rattle.key_counts.specs.Private.Prepared.{AreBounds, HasLeft, IsBound, IsPrepared, ArePositionsAt, keys_before, totals_before};
+ghost use Rattle.key_counts.specs.Private.Prepared.{AreBounds, ArePositionsAt, HasLeft, HoldsFirst, IsBound, IsPrepared, IsSameBut, keys_before, totals_before};
 ghost use Rattle.key_counts.specs.Segments.{IsSegment, counts_of, is_key, keys_behind, keys_of, merged_counts};
 ghost use Rattle.key_index.specs.Keys.{Key, distinct, lent};
 
@@ -15,7 +15,7 @@ use crate::twins::{CLASSES, Twins};
 use crate::walk::{Position, Walk};
 use key_index::KeyHash;
 use lane_words::{MOST_RECORDS, Memory};
-use parallel::{LEAST_KEYS, collected};
+use parallel::{LEAST_DROPS, LEAST_KEYS, collected, for_each_mut};
 use std::alloc::Global;
 use std::hash::RandomState;
 use std::marker::Model;
@@ -88,6 +88,19 @@ pub struct Start {
     entries: usize,
 }
 
+/// How many of a worker's entries the first segments have.
+fn entries_before(segments: &[Segment], end: usize, worker: usize) -> usize
+    ensures { HoldsFirst segments.now end worker result }
+{
+    let mut len = 0;
+    for i in 0..end.min(segments.len()) {
+        if segments[i].worker == worker {
+            len = len.max(segments[i].to);
+        }
+    }
+    len
+}
+
 /// Entries of workers, and what a walk over them needs.
 #[derive(Drop)]
 pub struct Prepared {
@@ -127,7 +140,14 @@ impl Prepared {
     {
         are_counted(workers.as_slice());
         let threads = threads_for(&place, CLASSES);
-        let twins = Twins::of(rt, alloc, place, workers.as_slice(), segments.as_slice(), skip)?;
+        let twins = Twins::of(
+            rt,
+            alloc,
+            place,
+            workers.as_slice(),
+            segments.as_slice(),
+            skip,
+        )?;
         let origin = Origin {
             twins: &twins,
             workers: workers.as_slice(),
@@ -179,6 +199,24 @@ impl Prepared {
             positions[class] = self.classes[class].starts[segment];
         }
         positions
+    }
+
+    /// Forgets the entries of all segments but the first ones, in so many threads at most.
+    fn forget_from<R: Threads + Sync>(&mut self, rt: &R, end: usize, threads: usize)
+        requires prepared { IsPrepared self.old }
+        requires left { HasLeft self.old end }
+        ensures left { HasLeft self.new end }
+        ensures same { IsSameBut self.old self.new }
+    {
+        let segments = self.segments.as_slice();
+        for_each_mut(
+            rt,
+            &mut self.workers,
+            threads,
+            &|w, own: &mut KeyCounts| {
+                own.truncate(entries_before(segments, end, w));
+            },
+        );
     }
 
     /// Merges the entries of the segments from one start on, up to another.
@@ -294,6 +332,23 @@ impl Merging {
     {
         self.prepared
             .walked(alloc, self.bounds[i], self.bounds[i + 1])
+    }
+
+    /// Forgets the entries of all parts from one on, whose memory is freed.
+    pub fn forget_from<R: Threads + Sync>(&mut self, rt: &R, part: usize)
+        ensures keys { self.new.keys ≡ self.old.keys }
+        ensures counts { self.new.counts ≡ self.old.counts }
+        ensures ends { self.new.ends ≡ self.old.ends }
+        ensures left { self.new.left ≡ min part self.old.left }
+    {
+        if part >= self.left {
+            return;
+        }
+        let Start { segment, entries } = self.bounds[part];
+        let forgotten = self.bounds[self.left].entries.saturating_sub(entries);
+        let threads = if forgotten < LEAST_DROPS { 1 } else { CLASSES };
+        self.prepared.forget_from(rt, segment, threads);
+        self.left = part;
     }
 
     /// Merges all parts together.

@@ -83,12 +83,7 @@ impl<'a> Walk<'a> {
 
     /// Takes an entry of a class.
     #[inline(always)]
-    fn take_shared(
-        &mut self,
-        key: &'a [u8],
-        class: usize,
-        classes: &[Class],
-    ) -> Result<(), Memory>
+    fn take_shared(&mut self, key: &'a [u8], class: usize, classes: &[Class]) -> Result<(), Memory>
         requires class { class < CLASSES }
         requires classes { length classes.now ≡ CLASSES }
         ensures { OnOk result ((n : ℕ)

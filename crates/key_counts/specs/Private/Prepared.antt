@@ -59,6 +59,19 @@ pub record HasLeft (m : Prepared) (count : ℕ) : Type 0 where
       → (slice_index_or m.segments.items i d).to
       ≤ length (entries_of m.workers.items (slice_index_or m.segments.items i d).worker).keys
 
+-- the first segments have no more than so many of a worker's entries
+abbrev pub HoldsFirst : List Segment → ℕ → ℕ → ℕ → Type 0
+HoldsFirst segments end worker len = (i : ℕ) (d : Segment) → i < end → i < length segments
+    → (slice_index_or segments i d).worker ≡ worker → (slice_index_or segments i d).to ≤ len
+
+-- all is the same but how many of their entries the workers have left
+pub record IsSameBut (old new : Prepared) : Type 0 where
+  pub whole : new.whole ≡ old.whole
+  pub segments : new.segments ≡ old.segments
+  pub skip : new.skip ≡ old.skip
+  pub twins : new.twins ≡ old.twins
+  pub classes : new.classes ≡ old.classes
+
 -- the distinct keys before a start, and their totals
 abbrev pub keys_before : Prepared → Start → List Key
 keys_before m start = distinct (take (entries_before m start.segment) (all_keys m))

@@ -4,7 +4,7 @@ use Rattle.key_counts.specs.Private.Classes.{AreMembers}
 use Rattle.key_counts.specs.Private.Twins.{class_in}
 use Rattle.key_counts.specs.Private.Walks.{IsNext, is_of}
 use Rattle.key_counts.proofs.Members.{member-more, member-other}
-use Rattle.key_counts.proofs.Classes.{class-at}
+use Rattle.key_counts.proofs.KeyClasses.{class-at}
 use Rattle.key_counts.proofs.Walks.{of-other, of-own}
 use Rattle.key_counts.proofs.classes.Members.take_segment.Goals as goal
 use Rattle.key_counts.proofs.classes.Members.take_segment.Goals.{then-from-class+in_ok-take, else-from-class}

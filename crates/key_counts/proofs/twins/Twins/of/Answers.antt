@@ -7,7 +7,7 @@ use Rattle.key_counts.specs.Segments.{keys_behind}
 use Rattle.key_counts.specs.declared.filter.Filter.{Filter}
 use Rattle.key_counts.specs.declared.filter.Place.{Place}
 use Rattle.key_counts.specs.declared.twins.Twins.{Twins}
-use Rattle.key_counts.proofs.Classes.{all-hashed, class-bound, has-classes, once-by-class}
+use Rattle.key_counts.proofs.KeyClasses.{all-hashed, class-bound, has-classes, once-by-class}
 use Rattle.key_counts.proofs.twins.Twins.of.Goals as goal
 
 pub of-requires-clause-segments : goal.of-requires-clause-segments

@@ -2,7 +2,7 @@ use Rattle.std.proofs.Common.{◌≡◌, ◌+◌, ◌-◌, ◌<◌, ◌∙◌, a
 use Rattle.key_index.specs.Keys.{key_at}
 use Rattle.key_counts.specs.Private.Twins.{class_in}
 use Rattle.key_counts.specs.Private.Walks.{IsNext, IsWalked}
-use Rattle.key_counts.proofs.Classes.{class-at}
+use Rattle.key_counts.proofs.KeyClasses.{class-at}
 use Rattle.key_counts.proofs.walk.Walk.take_segment.Goals as goal
 use Rattle.key_counts.proofs.walk.Walk.take_segment.Goals.{then-class-eq0+in_ok-take_unique, else-class-eq0+in_ok-take_shared}
 
