@@ -62,10 +62,9 @@ fn half_of(hash: u64) -> u32 {
     mixed ^ mixed >> 15
 }
 
-/// The code of an entry that has this short key, if the slots lead to one. From then on the first
-/// slot of the hash does.
+/// The code of an entry that has this short key, if the slots lead to one.
 #[inline(always)]
-fn find_short(slots: &mut Slots, entries: &[Entry], hash: u32, key: &KeyWords) -> Option<usize>
+fn find_short(slots: &Slots, entries: &[Entry], hash: u32, key: &KeyWords) -> Option<usize>
     ensures { IfSome result (λ code. (code < length entries.now)
         × (key_at (stored_keys entries.now) code ≡ key.now)) }
 {
@@ -73,9 +72,6 @@ fn find_short(slots: &mut Slots, entries: &[Entry], hash: u32, key: &KeyWords) -
     for _ in 0..slots.len() {
         let (other, code) = slots.get(index)?;
         if other == hash && is_copy_of(entries, code as usize, key) {
-            // A key that comes often is then mostly found without a walk. All slots between the two
-            // are filled, and none is ever emptied, so the other key is still found, too.
-            slots.swap(index, hash as usize);
             return Some(code as usize);
         }
         index = index.wrapping_add(1);
@@ -276,7 +272,7 @@ impl KeyCounts {
     fn seek_short(&mut self, hash: u32, key: &KeyWords) -> Result<(), Memory>
         ensures { OnOk result (Takes self.old self.new (key.now ∷ [])) }
     {
-        match find_short(&mut self.slots, self.entries.as_slice(), hash, key) {
+        match find_short(&self.slots, self.entries.as_slice(), hash, key) {
             Some(code) => self.count_one(code),
             None => self.add(hash, StoredKey::of_words(key)),
         }

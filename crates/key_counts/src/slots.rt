@@ -94,16 +94,6 @@ impl Slots {
         Some(((slot / HALF) as u32, low - 1))
     }
 
-    /// Swaps the slots of two indices, counted round from the first.
-    #[inline(always)]
-    pub fn swap(&mut self, one: usize, other: usize) {
-        let mask = self.slots.len().wrapping_sub(1);
-        let (one, other) = (one & mask, other & mask);
-        if one < self.slots.len() && other < self.slots.len() {
-            self.slots.swap(one, other);
-        }
-    }
-
     /// The first slot for this hash.
     #[inline(always)]
     pub fn first(&self, hash: u32) -> u64 {
