@@ -22,39 +22,58 @@ end-within m so i lt =
     let rest : suc i + (length m.ends - suc i) ≡ length m.ends = omega (arith, lt) in
     omega (arith, starts-rise m so (suc i) (length m.ends - suc i) (omega (arith, rest)), ap (λ k. get_or (0 ∷ m.ends) k 0) rest, so.last)
 
--- the first n texts are the rows up to the n-th part
-first-texts : (m : Parted) (texts : List (Vec ℕ Global)) (d : Vec ℕ Global) → IsDivided m → length texts ≡ length m.ends → ((i : ℕ) → i < length m.ends → IsTextOfPart m i (get_or texts i d))
-    → (n : ℕ) → n ≤ length m.ends → flat_map vec_items (take n texts) ≡ rows_between m.keys m.counts 0 (get_or (0 ∷ m.ends) n 0)
-first-texts m texts d so len each zero le = sym (rows_none m.keys m.counts 0)
-first-texts m texts d so len each (suc n) le =
-    let lt : n < length m.ends = omega (arith, le) in
-    let before = get_or (0 ∷ m.ends) n 0 in
-    let end = get_or m.ends n 0 in
+-- the first n texts of parts from one on are the rows up to the end of the last of these
+first-texts : (m : Parted) (from count : ℕ) (texts : List (Vec ℕ Global)) (d : Vec ℕ Global) → IsDivided m → from + count ≤ length m.ends → length texts ≡ count
+    → ((i : ℕ) → i < count → IsTextOfPart m (from + i) (get_or texts i d))
+    → (n : ℕ) → n ≤ count → flat_map vec_items (take n texts) ≡ rows_between m.keys m.counts (get_or (0 ∷ m.ends) from 0) (get_or (0 ∷ m.ends) (from + n) 0)
+first-texts m from count texts d so within len each zero le =
+    let same : from + 0 ≡ from = omega arith in
+    rw same (sym (rows_none m.keys m.counts (get_or (0 ∷ m.ends) from 0)))
+first-texts m from count texts d so within len each (suc n) le =
+    let lt : n < count = omega (arith, le) in
+    let at = from + n in
+    let in_ends : at < length m.ends = omega (arith, within, lt) in
+    let start = get_or (0 ∷ m.ends) from 0 in
+    let before = get_or (0 ∷ m.ends) at 0 in
+    let end = get_or m.ends at 0 in
     let text = get_or texts n d in
     let up : suc n ≡ n + 1 = omega arith in
+    let next : from + suc n ≡ suc at = omega arith in
     let grown : flat_map vec_items (take (suc n) texts) ≡ flat_map vec_items (take n texts) ++ text.items =
     ap (λ k. flat_map vec_items (take k texts)) up ∙ ap (flat_map vec_items) (take_more texts n d (omega (arith, lt, len))) ∙ flat_map-append vec_items (take n texts) (text ∷ [])
     ∙ ap (λ t. flat_map vec_items (take n texts) ++ t) (append-nil text.items) in
-    grown ∙ ap₂ (λ a b. a ++ b) (first-texts m texts d so len each n (omega (arith, le))) (each n lt)
-    ∙ sym (rows_parted m.keys m.counts 0 before end (omega arith) (so.rise n lt) (omega (arith, end-within m so n lt, so.len)) (sym so.len))
-
-pub parts-texts : (m : Parted) (texts : List (Vec ℕ Global)) (d : Vec ℕ Global) → IsDivided m → length texts ≡ length m.ends → ((i : ℕ) → i < length m.ends → IsTextOfPart m i (get_or texts i d))
-    → flat_map vec_items texts ≡ count_rows m.keys m.counts
-parts-texts m texts d so len each =
-    ap (flat_map vec_items) (sym (take_all (length m.ends) texts (omega (arith, len)))) ∙ first-texts m texts d so len each (length m.ends) (omega arith)
-    ∙ ap (rows_between m.keys m.counts 0) so.last ∙ rows_all m.keys m.counts (length m.keys) (sym so.len) (omega (arith, so.len))
+    rw next
+    (grown ∙ ap₂ (λ a b. a ++ b) (first-texts m from count texts d so within len each n (omega (arith, le))) (each n lt)
+    ∙ sym (rows_parted m.keys m.counts start before end (starts-rise m so from n (omega (arith, in_ends))) (so.rise at in_ends) (omega (arith, end-within m so at in_ends, so.len)) (sym so.len)))
 
 -- what threads found, where none ran out of memory
-pub found-texts : {E : Type 0} (m : Parted) (found : List (Result (Vec ℕ Global) E)) (texts : List (Vec ℕ Global)) → IsDivided m → length found ≡ length m.ends → AreResults (IsTextOfPart m) (length m.ends) found → found ≡ map Ok texts
-    → flat_map vec_items texts ≡ count_rows m.keys m.counts
-found-texts {E} m found [] so len each is =
-    let none : length m.ends ≡ 0 = sym len ∙ ap length is in
-    let last : get_or (0 ∷ m.ends) (length m.ends) 0 ≡ 0 = ap (λ n. get_or (0 ∷ m.ends) n 0) none in
-    let keys : length m.keys ≡ 0 = sym so.last ∙ last in
-    sym (rows_none m.keys m.counts 0) ∙ rows_all m.keys m.counts 0 (sym so.len) (omega (arith, keys, so.len))
-found-texts {E} m found (text ∷ texts) so len each is =
+pub found-texts : {E : Type 0} (m : Parted) (from count : ℕ) (found : List (Result (Vec ℕ Global) E)) (texts : List (Vec ℕ Global)) → IsDivided m → from + count ≤ length m.ends → length found ≡ count
+    → AreResults (λ i. IsTextOfPart m (from + i)) count found → found ≡ map Ok texts
+    → flat_map vec_items texts ≡ rows_between m.keys m.counts (get_or (0 ∷ m.ends) from 0) (get_or (0 ∷ m.ends) (from + count) 0)
+found-texts {E} m from count found [] so within len each is =
+    let none : from + count ≡ from = omega (arith, len, ap length is) in
+    rw none (sym (rows_none m.keys m.counts (get_or (0 ∷ m.ends) from 0)))
+found-texts {E} m from count found (text ∷ texts) so within len each is =
     let all = text ∷ texts in
-    let many : length all ≡ length m.ends = sym (ap length is ∙ length-map all Ok) ∙ len in
-    parts-texts m all text so many (λ i lt.
+    let many : length all ≡ count = sym (ap length is ∙ length-map all Ok) ∙ len in
+    ap (flat_map vec_items) (sym (take_all count all (omega (arith, many))))
+    ∙ first-texts m from count all text so within many
+    (λ i lt.
     let at : get_or found i (Ok text) ≡ Ok (get_or all i text) = ap (λ fs. get_or fs i (Ok text)) is ∙ get_or-map Ok all i text (Ok text) (omega (arith, lt, many)) in
-    subst (λ r. IfOk r (IsTextOfPart m i)) at (each i (Ok text) lt))
+    subst (λ r. IfOk r (IsTextOfPart m (from + i))) at (each i (Ok text) lt))
+    count (omega arith)
+
+-- the texts of some parts, and then those of the parts behind them
+pub both-texts : (m : Parted) (from count : ℕ) (first last : List (Vec ℕ Global)) → IsDivided m → from ≤ count → count ≤ length m.ends
+    → flat_map vec_items first ≡ rows_between m.keys m.counts 0 (get_or (0 ∷ m.ends) from 0)
+    → flat_map vec_items last ≡ rows_between m.keys m.counts (get_or (0 ∷ m.ends) from 0) (get_or (0 ∷ m.ends) count 0)
+    → flat_map vec_items (first ++ last) ≡ rows_between m.keys m.counts 0 (get_or (0 ∷ m.ends) count 0)
+both-texts m from count first last so le within one two =
+    let rest : from + (count - from) ≡ count = omega (arith, le) in
+    let rise = starts-rise m so from (count - from) (omega (arith, rest, within)) in
+    let end = starts-rise m so count (length m.ends - count) (omega (arith, within)) in
+    let last_end : count + (length m.ends - count) ≡ length m.ends = omega (arith, within) in
+    let up : get_or (0 ∷ m.ends) from 0 ≤ get_or (0 ∷ m.ends) count 0 = omega (arith, rise, ap (λ k. get_or (0 ∷ m.ends) k 0) rest) in
+    let in_keys : get_or (0 ∷ m.ends) count 0 ≤ length m.counts = omega (arith, end, ap (λ k. get_or (0 ∷ m.ends) k 0) last_end, so.last, so.len) in
+    flat_map-append vec_items first last ∙ ap₂ (λ a b. a ++ b) one two
+    ∙ sym (rows_parted m.keys m.counts 0 (get_or (0 ∷ m.ends) from 0) (get_or (0 ∷ m.ends) count 0) (omega arith) up in_keys (sym so.len))

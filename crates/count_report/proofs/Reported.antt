@@ -47,9 +47,9 @@ reported options left left2 counting file texts is =
     ap (report_of_read (report_of_records options.top (partition_counts options))) file.records
     ∙ ap (λ fault. fault_or fault (plain_text options.top keys)) file.refused ∙ ap Ok (sym text)
 
-pub reports : (options : Options) (counting : Counting) (counters : Counters) (texts : Vec (Vec ℕ Global) Global) → AreCountersOf counting counters
+pub reports : (options : Options) (counting : Counting) (counters : Counters) → AreCountersOf counting counters → (texts : Vec (Vec ℕ Global) Global)
     → TellsCounters options counters counting.round.keys texts → ReportsCounted options counting texts
-reports options counting counters texts counted each = λ left left2 file.
+reports options counting counters counted texts each = λ left left2 file.
     reported options left left2 counting file (flat_map vec_items texts.items)
     (each file.counted.keys (counted options.delimiter file.wanted options.header file.read file.counted).0)
 

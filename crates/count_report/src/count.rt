@@ -1,13 +1,13 @@
 //! A count, from a source to a sink.
 
-ghost use Rattle.std.specs.Prelude.{◌≡◌, ◌<◌, ◌+◌, ◌++◌, List, None, Ok, IfErr, IfOk, IfSome, OnErr, OnOk, flat_map, length, vec_items, vec_len};
+ghost use Rattle.std.specs.Prelude.{◌≡◌, ◌<◌, ◌≤◌, ◌+◌, ◌^◌, ◌++◌, List, None, Ok, IfErr, IfOk, IfSome, OnErr, OnOk, flat_map, length, vec_items, vec_len};
 ghost use Rattle.count_report.specs.CountReport.{report_of_count};
-ghost use Rattle.count_report.specs.Private.Counted.{IsTextOfPart, ReportsCounted, TellsCounters, skipped};
+ghost use Rattle.count_report.specs.Private.Counted.{AreTextsOfParts, IsTextOfPart, ReportsCounted, TellsCounters, skipped};
 ghost use Rattle.report_rows.specs.CountRows.{count_rows, listed_rows, top_rows};
 ghost use Rattle.report_rows.specs.Rows.{total_row};
-ghost use Rattle.std.specs.Io.KnownBytes.{Appends};
 ghost use Rattle.parallel.specs.Results.{AreResults};
-ghost use Rattle.byte_io.specs.Devices.{AppendsPrefix, CanStillFail};
+ghost use Rattle.byte_io.specs.Devices.{CanStillFail};
+ghost use Rattle.key_counts.specs.Merging.{IsDivided};
 ghost use Rattle.key_index.specs.Keys.{Key};
 ghost use Rattle.key_stream.specs.Tally.{HaveCounted};
 ghost use Rattle.ingest.specs.Counted.{CountsFile};
@@ -18,81 +18,138 @@ ghost use Rattle.ingest.specs.Reports.{AreInRange, IsFaultOf, IsNoWrite, WritesA
 use byte_io::{Sink, Source, write_texts};
 use command_line::Options;
 use ingest::{count_file, window_for, workers_for};
-use key_counts::{KeyCounts, Merging};
+use key_counts::Merging;
 use key_stream::{Counters, Counting};
 use lane_words::{Memory, Refusal};
-use parallel::{LEAST_BYTES, LEAST_DROPS, collected, drop_each, for_each_mut, no_results};
+use parallel::{LEAST_BYTES, collected, drop_each, for_each_mut, no_results};
 use report_rows::count_rows::{count_rows_text, with_total};
 use report_rows::top_rows::top_text;
 use std::alloc::Global;
 use std::hash::RandomState;
 use std::random::RandomSource;
-use std::thread;
 use std::thread::Threads;
 
-/// The rows of the keys of one part.
-fn rows_of_part(alloc: Global, merging: &Merging<'_>, i: usize) -> Result<Vec<u8>, Memory>
-    requires { i < length merging.now.ends }
-    ensures { IfOk result (IsTextOfPart merging.now i) }
+/// Of how many parts rows are made before their entries are forgotten. A part has some 4,096.
+const PARTS_TOGETHER: usize = 128;
+
+/// The rows of the keys of part i of those from one on.
+fn rows_of_part(alloc: Global, merging: &Merging, from: usize, i: usize) -> Result<Vec<u8>, Memory>
+    requires bound { from + i < 2 ^ 64 }
+    requires within { from + i < length merging.now.ends }
+    requires left { from + i < merging.now.left }
+    ensures { IfOk result (IsTextOfPart merging.now (from + i)) }
 {
-    let merged = merging.part(alloc, i)?;
+    let merged = merging.part(alloc, from + i)?;
     count_rows_text(alloc, &merged.keys, merged.counts.as_slice())
 }
 
-/// Makes the rows of so many parts, in as many threads as there are processors. Few entries are one
-/// part, whose rows the calling thread makes.
+/// Makes the rows of so many parts from one on, which still have their entries, in as many threads
+/// as there are processors. Few entries are one part, whose rows the calling thread makes.
 fn make_parts<R: Threads + Sync>(
     rt: &R,
     alloc: Global,
-    merging: &Merging<'_>,
-    parts: usize,
+    merging: &Merging,
+    from: usize,
+    count: usize,
 ) -> Result<Vec<Result<Vec<u8>, Memory>>, Memory>
-    requires { parts ≡ length merging.now.ends }
-    ensures len { IfOk result (λ found. vec_len found ≡ parts) }
+    requires bound { from + count < 2 ^ 64 }
+    requires within { from + count ≤ length merging.now.ends }
+    requires left { from + count ≤ merging.now.left }
+    ensures len { IfOk result (λ found. vec_len found ≡ count) }
     ensures found { IfOk result (λ found.
-        AreResults (IsTextOfPart merging.now) parts found.items) }
+        AreResults (λ i. IsTextOfPart merging.now (from + i)) count found.items) }
 {
-    let mut found = no_results(alloc, parts)?;
-    let threads = workers_for(rt).min(parts);
+    let mut found = no_results(alloc, count)?;
+    let threads = workers_for(rt).min(count);
     for_each_mut(
         rt,
         &mut found,
         threads,
         &|i, own: &mut Result<Vec<u8>, Memory>| {
-            *own = rows_of_part(alloc, merging, i);
+            *own = rows_of_part(alloc, merging, from, i);
         },
     );
     Ok(found)
+}
+
+/// The rows of so many parts from one on, in texts to be written one after another.
+fn rows_between<R: Threads + Sync>(
+    rt: &R,
+    alloc: Global,
+    merging: &Merging,
+    from: usize,
+    count: usize,
+) -> Result<Vec<Vec<u8>>, Memory>
+    requires bound { from + count < 2 ^ 64 }
+    requires within { from + count ≤ length merging.now.ends }
+    requires left { from + count ≤ merging.now.left }
+    requires divided { IsDivided merging.now }
+    ensures { IfOk result (AreTextsOfParts merging.now from (from + count)) }
+{
+    let found = make_parts(rt, alloc, merging, from, count)?;
+    collected(alloc, found)
+}
+
+/// The rows of the first parts, which are those that still have their entries, in texts to be
+/// written one after another. The last rows are made first: then the entries that they are made of
+/// are forgotten, so that memory does not hold all entries and all rows.
+fn first_rows<R: Threads + Sync>(
+    rt: &R,
+    alloc: Global,
+    merging: &mut Merging,
+    count: usize,
+) -> Result<Vec<Vec<u8>>, Memory>
+    requires within { count ≤ length merging.old.ends }
+    requires left { merging.old.left ≡ count }
+    requires divided { IsDivided merging.old }
+    ensures { IfOk result (AreTextsOfParts merging.old 0 count) }
+{
+    let from = count.saturating_sub(PARTS_TOGETHER);
+    let mut last = rows_between(rt, alloc, merging, from, count - from)?;
+    if from == 0 {
+        return Ok(last);
+    }
+    merging.forget_from(rt, from);
+    let mut texts = first_rows(rt, alloc, merging, from)?;
+    texts.append(&mut last)?;
+    Ok(texts)
 }
 
 /// The rows of all keys, in texts to be written one after another.
 fn rows_parallel<R: Threads + Sync>(
     rt: &R,
     alloc: Global,
-    merging: &Merging<'_>,
+    merging: &mut Merging,
 ) -> Result<Vec<Vec<u8>>, Memory>
+    requires { merging.old.left ≡ length merging.old.ends }
     ensures { IfOk result (λ texts. flat_map vec_items texts.items
-        ≡ count_rows merging.now.keys merging.now.counts) }
+        ≡ count_rows merging.old.keys merging.old.counts) }
 {
-    let found = make_parts(rt, alloc, merging, merging.parts())?;
-    collected(alloc, found)
+    let parts = merging.parts();
+    let texts = first_rows(rt, alloc, merging, parts)?;
+    merging.forget_from(rt, 0);
+    Ok(texts)
 }
 
 /// The text of a count of which only the top has rows.
-fn top_texts(
+fn top_texts<R: Threads + Sync>(
+    rt: &R,
     alloc: Global,
-    merging: &Merging<'_>,
+    merging: &mut Merging,
     most: u32,
     records: u64,
 ) -> Result<Vec<Vec<u8>>, Memory>
+    requires { merging.old.left ≡ length merging.old.ends }
     ensures { IfOk result (λ texts. flat_map vec_items texts.items
-        ≡ top_rows most merging.now.keys merging.now.counts ++ total_row records records) }
+        ≡ top_rows most merging.old.keys merging.old.counts ++ total_row records records) }
 {
     let merged = merging.all(alloc)?;
     let counts = merged.counts.as_slice();
     let text = top_text(alloc, &merged.keys, counts, most, records, records)?;
     let mut texts = Vec::new(alloc);
     texts.push(text)?;
+    drop(merged);
+    merging.forget_from(rt, 0);
     Ok(texts)
 }
 
@@ -101,18 +158,19 @@ fn top_texts(
 fn texts_of_count<R: Threads + Sync>(
     rt: &R,
     alloc: Global,
-    merging: &Merging<'_>,
+    merging: &mut Merging,
     records: u64,
     top: Option<u32>,
 ) -> Result<Vec<Vec<u8>>, Memory>
+    requires { merging.old.left ≡ length merging.old.ends }
     ensures { IfOk result (λ texts. flat_map vec_items texts.items
-        ≡ listed_rows top merging.now.keys merging.now.counts ++ total_row records records) }
+        ≡ listed_rows top merging.old.keys merging.old.counts ++ total_row records records) }
 {
     let Some(most) = top else {
         let texts = rows_parallel(rt, alloc, merging)?;
         return with_total(alloc, texts, records, records);
     };
-    top_texts(alloc, merging, most, records)
+    top_texts(rt, alloc, merging, most, records)
 }
 
 /// How many bytes stand before each key: with topics the index of its topic.
@@ -128,70 +186,49 @@ fn bytes_before_keys(options: &Options) -> usize
 
 /// The text of what these counters counted, of so many records, in texts to be written one after
 /// another.
-fn texts_of_counters<R: Threads + Sync + RandomSource>(
+fn texts_of_counters<R: Threads + Sync>(
     rt: &R,
     alloc: Global,
     hasher: RandomState,
-    counters: &Counters,
+    counters: Counters,
     records: u64,
     options: &Options,
 ) -> Result<Vec<Vec<u8>>, Memory>
-    requires { (keys : List Key) × HaveCounted keys counters.now }
-    ensures { IfOk result (TellsCounters options.now counters.now records) }
+    requires { (keys : List Key) × HaveCounted keys counters }
+    ensures { IfOk result (TellsCounters options.now counters records) }
 {
     let skip = bytes_before_keys(options);
-    let merging = counters.merging(rt, alloc, hasher, skip)?;
-    texts_of_count(rt, alloc, &merging, records, options.top)
+    let mut merging = counters.into_merging(rt, alloc, hasher, skip)?;
+    texts_of_count(rt, alloc, &mut merging, records, options.top)
 }
 
-/// How many entries counters have together.
-fn entries_of(workers: &[KeyCounts]) -> usize {
-    let mut entries: usize = 0;
-    for worker in workers {
-        entries = entries.saturating_add(worker.len());
-    }
-    entries
-}
-
-/// The text of a count, in texts to be written one after another, and the counters that it was made
-/// from.
-#[derive(Drop)]
-struct Report {
-    texts: Vec<Vec<u8>>,
-    counters: Vec<KeyCounts>,
-}
-
-/// The report of what was counted of a file.
-fn counted_report<R: Threads + Sync + RandomSource>(
+/// The report of what was counted of a file, in texts to be written one after another.
+fn counted_report<R: Threads + Sync>(
     rt: &R,
     alloc: Global,
     hasher: RandomState,
     counting: Counting,
     options: &Options,
-) -> Result<Report, Memory>
+) -> Result<Vec<Vec<u8>>, Memory>
     requires { (left left2 : _) × CountsFile options.now left left2 counting None }
-    ensures { IfOk result (λ report. ReportsCounted options.now counting report.texts) }
+    ensures { IfOk result (ReportsCounted options.now counting) }
 {
     let records = counting.round.keys;
     let counters = Counters::of(alloc, counting)?;
-    let texts = texts_of_counters(rt, alloc, hasher, &counters, records, options)?;
-    Ok(Report {
-        texts,
-        counters: counters.workers,
-    })
+    texts_of_counters(rt, alloc, hasher, counters, records, options)
 }
 
-/// The report of a file.
+/// The report of a file, in texts to be written one after another.
 fn file_report<R: Threads + Sync + RandomSource, S: Source>(
     rt: &R,
     alloc: Global,
     file: &mut S,
     options: &Options,
-) -> Result<Report, Refusal>
+) -> Result<Vec<Vec<u8>>, Refusal>
     requires source { CanStillFail (S.failures file.old) }
     requires options { AreInRange options.now }
-    ensures report { IfOk result (λ report. IfSome (S.left file.old) (λ bytes.
-        report_of_count options.now bytes ≡ Ok (flat_map vec_items report.texts.items))) }
+    ensures report { IfOk result (λ texts. IfSome (S.left file.old) (λ bytes.
+        report_of_count options.now bytes ≡ Ok (flat_map vec_items texts.items))) }
     ensures fault { IfErr result (λ e. IfSome (S.left file.old)
         (λ bytes. IsFaultOf (report_of_count options.now bytes) e)) }
     ensures kind { IfErr result IsNoWrite }
@@ -207,38 +244,6 @@ fn file_report<R: Threads + Sync + RandomSource, S: Source>(
         Ok(Some(refusal)) => Err(refusal),
         Err(fault) => Err(fault),
     }
-}
-
-/// Writes texts, while counters are dropped: each on a thread of its own.
-fn write_and_drop<R: Threads + Sync, K: Sink>(
-    rt: &R,
-    out: &mut K,
-    texts: &[Vec<u8>],
-    counters: Vec<KeyCounts>,
-) -> Result<(), Refusal>
-    requires { CanStillFail (K.failures out.old) }
-    ensures ok { OnOk result
-        (Appends (K.written out.old) (K.written out.new) (flat_map vec_items texts.now)) }
-    ensures no_failures { OnOk result (K.failures out.new ≡ K.failures out.old) }
-    ensures kind { IfErr result (λ e. e ≡ refusal.WriteFailed) }
-    ensures failures { OnErr result (K.failures out.new ≡ K.failures out.old + 1) }
-    ensures err { OnErr result (AppendsPrefix
-        (K.written out.old) (K.written out.new) (flat_map vec_items texts.now)) }
-{
-    if entries_of(counters.as_slice()) < LEAST_DROPS {
-        return write_texts(out, texts);
-    }
-    let mut counters = Some(counters);
-    let ((), written) = thread::join_mut(
-        rt,
-        &mut || {
-            if let Some(counters) = counters.take() {
-                drop_each(rt, counters);
-            }
-        },
-        &mut || write_texts(out, texts),
-    );
-    written
 }
 
 /// Drops texts, in parallel if there are several: one is not worth a thread.
@@ -280,8 +285,8 @@ pub fn count_text<R: Threads + Sync + RandomSource, S: Source, K: Sink>(
     ensures reads { S.failures file.new ≡ S.failures file.old + failed_reads result }
     ensures writes { K.failures out.new ≡ K.failures out.old + failed_writes result }
 {
-    let Report { texts, counters } = file_report(rt, alloc, file, options)?;
-    let written = write_and_drop(rt, out, texts.as_slice(), counters);
+    let texts = file_report(rt, alloc, file, options)?;
+    let written = write_texts(out, texts.as_slice());
     drop_texts(rt, texts);
     written
 }

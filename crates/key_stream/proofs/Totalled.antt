@@ -12,25 +12,18 @@ use Rattle.key_stream.specs.Counting.{occurrences}
 use Rattle.key_stream.specs.Tally.{HaveCounted}
 use Rattle.key_stream.specs.declared.tally.Counters.{Counters}
 
-pub totals-fit : (skip : ℕ) (keys : List Key) (counters : Counters) (workers : List Entries) (segments : List Segment) → workers ≡ counters.workers.items → segments ≡ counters.segments.items
-    → HaveCounted keys counters → All HasCounts workers → (x : Key) → total (is_key x) (keys_behind skip workers segments) (counts_of workers segments) < 2 ^ 64
-totals-fit skip keys counters workers segments ws ss so whole x =
-    let all : All HasCounts counters.workers.items = rw (← ws) whole in
+pub totals-fit : (skip : ℕ) (keys : List Key) (counters : Counters) → HaveCounted keys counters → All HasCounts counters.workers.items
+    → (x : Key) → total (is_key x) (keys_behind skip counters.workers.items counters.segments.items) (counts_of counters.workers.items counters.segments.items) < 2 ^ 64
+totals-fit skip keys counters so all x =
     let within = total-within skip x keys counters.workers.items counters.segments.items so.lens all so.taken so.parts in
-    rw (ws, ss) (omega (arith, within, so.few))
+    omega (arith, within, so.few)
 
-pub keys-are : (skip : ℕ) {E : Type 0} (keys : List Key) (counters : Counters) (workers : List Entries) (segments : List Segment) (result : Result Parted E) → workers ≡ counters.workers.items → segments ≡ counters.segments.items
-    → HaveCounted keys counters → IfOk result (λ m. m.keys ≡ distinct (keys_behind skip workers segments)) → IfOk result (λ m. m.keys ≡ distinct (map (drop skip) keys))
-keys-are skip keys counters workers segments (Err e) ws ss so is = tt
-keys-are skip keys counters workers segments (Ok m) ws ss so is =
-    let all = counters.segments.items in
-    let its = counters.workers.items in
-    is ∙ ap (λ w. distinct (keys_behind skip w segments)) ws ∙ ap (λ s. distinct (keys_behind skip its s)) ss ∙ same-firsts (drop skip) (keys_of its all) keys so.taken.same_order
+pub keys-are : (skip : ℕ) {E : Type 0} (keys : List Key) (counters : Counters) (result : Result Parted E) → HaveCounted keys counters
+    → IfOk result (λ m. m.keys ≡ distinct (keys_behind skip counters.workers.items counters.segments.items)) → IfOk result (λ m. m.keys ≡ distinct (map (drop skip) keys))
+keys-are skip keys counters (Err e) so is = tt
+keys-are skip keys counters (Ok m) so is = is ∙ same-firsts (drop skip) (keys_of counters.workers.items counters.segments.items) keys so.taken.same_order
 
-pub counts-are : (skip : ℕ) {E : Type 0} (keys : List Key) (counters : Counters) (workers : List Entries) (segments : List Segment) (result : Result Parted E) → workers ≡ counters.workers.items → segments ≡ counters.segments.items
-    → HaveCounted keys counters → All HasCounts workers → IfOk result (λ m. m.counts ≡ merged_counts skip workers segments) → IfOk result (λ m. m.counts ≡ occurrences (map (drop skip) keys))
-counts-are skip keys counters workers segments (Err e) ws ss so whole is = tt
-counts-are skip keys counters workers segments (Ok m) ws ss so whole is =
-    let all : All HasCounts counters.workers.items = rw (← ws) whole in
-    is ∙ ap (λ w. merged_counts skip w segments) ws ∙ ap (λ s. merged_counts skip counters.workers.items s) ss
-    ∙ merged-counts-taken skip keys counters.workers.items counters.segments.items so.lens all so.taken so.parts
+pub counts-are : (skip : ℕ) {E : Type 0} (keys : List Key) (counters : Counters) (result : Result Parted E) → HaveCounted keys counters → All HasCounts counters.workers.items
+    → IfOk result (λ m. m.counts ≡ merged_counts skip counters.workers.items counters.segments.items) → IfOk result (λ m. m.counts ≡ occurrences (map (drop skip) keys))
+counts-are skip keys counters (Err e) so all is = tt
+counts-are skip keys counters (Ok m) so all is = is ∙ merged-counts-taken skip keys counters.workers.items counters.segments.items so.lens all so.taken so.parts

@@ -1,6 +1,6 @@
 //! How often each key of a file occurs.
 
-ghost use Rattle.std.specs.Prelude.{◌≡◌, IfOk, List, drop, map};
+ghost use Rattle.std.specs.Prelude.{◌≡◌, IfOk, List, drop, length, map};
 ghost use Rattle.key_index.specs.Keys.{Key, distinct};
 ghost use Rattle.key_stream.specs.Counting.{occurrences};
 ghost use Rattle.key_stream.specs.Rounds.{entries_in};
@@ -12,7 +12,6 @@ use key_counts::{KeyCounts, Merging, Segment, are_counted};
 use lane_words::Memory;
 use std::alloc::Global;
 use std::hash::RandomState;
-use std::random::RandomSource;
 use std::thread::Threads;
 
 /// The counters of all workers, and which entries and records each chunk brought.
@@ -58,23 +57,26 @@ impl Counters {
 
     /// What was counted, prepared to be merged: its distinct keys, in the order of their first
     /// appearance, and how often each occurs. The first `skip` bytes of each key are left out. Keys
-    /// are hashed by this hasher, which a stranger must not know. Fails if an allocation or the
-    /// random source failed, or with more than `MOST_RECORDS` entries.
-    pub fn merging<R: Threads + Sync + RandomSource>(
-        &self,
+    /// are hashed by this hasher, which a stranger must not know. Fails if an allocation failed, or
+    /// with more than `MOST_RECORDS` entries.
+    pub fn into_merging<R: Threads + Sync>(
+        self,
         rt: &R,
         alloc: Global,
         hasher: RandomState,
         skip: usize,
-    ) -> Result<Merging<'_>, Memory>
-        requires { (keys : List Key) × HaveCounted keys self.now }
-        ensures keys { (keys : List Key) → HaveCounted keys self.now
+    ) -> Result<Merging, Memory>
+        requires { (keys : List Key) × HaveCounted keys self }
+        ensures keys { (keys : List Key) → HaveCounted keys self
             → IfOk result (λ merging. merging.keys ≡ distinct (map (drop skip) keys)) }
-        ensures counts { (keys : List Key) → HaveCounted keys self.now
+        ensures counts { (keys : List Key) → HaveCounted keys self
             → IfOk result (λ merging. merging.counts ≡ occurrences (map (drop skip) keys)) }
+        ensures left { IfOk result (λ merging. merging.left ≡ length merging.ends) }
     {
-        let workers = self.workers.as_slice();
-        are_counted(workers);
-        Merging::new(rt, alloc, hasher, workers, self.segments.as_slice(), skip)
+        are_counted(self.workers.as_slice());
+        let Counters {
+            workers, segments, ..
+        } = self;
+        Merging::new(rt, alloc, hasher, workers, segments, skip)
     }
 }

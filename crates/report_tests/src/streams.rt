@@ -1,7 +1,7 @@
 //! Files counted as streams, in windows of a few bytes, and logs of files that are read in parallel,
 //! compared with logs to which records are appended one by one.
 
-ghost use Rattle.std.specs.Prelude.{◌<◌, List, None};
+ghost use Rattle.std.specs.Prelude.{◌≡◌, ◌<◌, List, None, length};
 ghost use Rattle.ingest.specs.Counted.{CountsFile};
 ghost use Rattle.ingest.specs.Reports.{AreInRange};
 ghost use Rattle.key_index.specs.Keys.{Key};
@@ -106,7 +106,9 @@ fn text_of_merged(alloc: Global, merged: &Merged<'_>) -> Result<Vec<u8>, Memory>
 }
 
 /// The keys that counters counted and how often each occurs, in one text, merged part by part.
-fn text_of_parts(alloc: Global, merging: &Merging<'_>) -> Result<Vec<u8>, Memory> {
+fn text_of_parts(alloc: Global, merging: &Merging) -> Result<Vec<u8>, Memory>
+    requires { merging.now.left ≡ length merging.now.ends }
+{
     let mut text = Vec::new(alloc);
     for i in 0..merging.parts() {
         let merged = merging.part(alloc, i)?;
@@ -117,7 +119,9 @@ fn text_of_parts(alloc: Global, merging: &Merging<'_>) -> Result<Vec<u8>, Memory
 }
 
 /// The same text of the whole, and whether that of the parts is equal.
-fn text_of_merging(alloc: Global, merging: &Merging<'_>) -> Result<(Vec<u8>, bool), Memory> {
+fn text_of_merging(alloc: Global, merging: &Merging) -> Result<(Vec<u8>, bool), Memory>
+    requires { merging.now.left ≡ length merging.now.ends }
+{
     let merged = merging.all(alloc)?;
     let whole = text_of_merged(alloc, &merged)?;
     let alike = text_of_parts(alloc, merging)? == whole;
@@ -130,12 +134,12 @@ fn text_of_counters<R: Threads + Sync + RandomSource>(
     rt: &R,
     alloc: Global,
     hasher: RandomState,
-    counters: &Counters,
+    counters: Counters,
     skip: usize,
 ) -> Result<Vec<u8>, Memory>
-    requires { (keys : List Key) × HaveCounted keys counters.now }
+    requires { (keys : List Key) × HaveCounted keys counters }
 {
-    let merging = counters.merging(rt, alloc, hasher, skip)?;
+    let merging = counters.into_merging(rt, alloc, hasher, skip)?;
     let (whole, alike) = text_of_merging(alloc, &merging)?;
     if alike {
         Ok(whole)
@@ -156,7 +160,7 @@ fn text_of_counting<R: Threads + Sync + RandomSource>(
 {
     let skip = usize::from(options.topics.len() != 0);
     let counters = Counters::of(alloc, counting)?;
-    text_of_counters(rt, alloc, hasher, &counters, skip)
+    text_of_counters(rt, alloc, hasher, counters, skip)
 }
 
 /// The same of a file that this many threads count, in windows of this size.

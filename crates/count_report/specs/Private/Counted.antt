@@ -1,5 +1,5 @@
 -- The text of what was counted.
-use Rattle.std.specs.Prelude.{◌≡◌, ◌++◌, ℕ, Bool, List, None, Ok, Option, Vec, drop, flat_map, if◌then◌else◌, map, vec_items}
+use Rattle.std.specs.Prelude.{◌≡◌, ◌++◌, ℕ, Bool, List, ◌∷◌, None, Ok, Option, Vec, drop, flat_map, if◌then◌else◌, map, slice_index, vec_items}
 use Rattle.std.specs.Global.{Global}
 use Rattle.command_line.specs.declared.options.Options.{Options}
 use Rattle.ingest.specs.Counted.{CountsFile}
@@ -11,7 +11,7 @@ use Rattle.count_report.specs.CountReport.{report_of_count}
 use Rattle.key_index.specs.Keys.{Key, distinct}
 use Rattle.key_stream.specs.Counting.{occurrences}
 use Rattle.key_counts.specs.Merging.{Parted, part_at}
-use Rattle.report_rows.specs.CountRows.{count_rows, listed_rows}
+use Rattle.report_rows.specs.CountRows.{count_rows, listed_rows, rows_between}
 use Rattle.report_rows.specs.Rows.{total_row}
 
 -- how many bytes stand before each key: with topics the index of its topic
@@ -31,6 +31,12 @@ text_of top keys records =
 abbrev pub IsTextOfPart : Parted → ℕ → Vec ℕ Global → Type 0
 IsTextOfPart m i text =
     text.items ≡ count_rows (part_at m.ends i m.keys) (part_at m.ends i m.counts)
+
+-- the texts of the parts from one on, below another
+abbrev pub AreTextsOfParts : Parted → ℕ → ℕ → Vec (Vec ℕ Global) Global → Type 0
+AreTextsOfParts m from to texts =
+    flat_map vec_items texts.items
+    ≡ rows_between m.keys m.counts (slice_index (0 ∷ m.ends) from) (slice_index (0 ∷ m.ends) to)
 
 -- texts are those of whatever keys counters have counted
 abbrev pub TellsCounters : Options → Counters → ℕ → Vec (Vec ℕ Global) Global → Type 0

@@ -1,3 +1,5 @@
+use Rattle.std.proofs.lemmas.Result.{IfOk-weaker}
+use Rattle.count_report.specs.Private.Counted.{ReportsCounted, TellsCounters}
 use Rattle.count_report.proofs.Reported.{reports}
 use Rattle.count_report.proofs.count.counted_report.Goals as goal
 
@@ -8,4 +10,6 @@ texts_of_counters-requires-after_bounds g c κs within =
     (file.counted.keys, (c.in_ok-counters.ensures options.delimiter file.wanted options.header file.read file.counted).0)
 
 pub returns : goal.returns
-returns g c = reports c.args.options.now c.args.counting _ c.in_ok-texts.texts c.in_ok-counters.ensures c.in_ok-texts.ensures
+returns g c =
+    IfOk-weaker c.texts_of_counters.result (TellsCounters c.args.options.now c.in_ok-counters.counters c.args.counting.round.keys) (ReportsCounted c.args.options.now c.args.counting)
+    (reports c.args.options.now c.args.counting c.in_ok-counters.counters c.in_ok-counters.ensures) c.texts_of_counters.ensures

@@ -15,7 +15,7 @@ returns g c =
     let merging = c.in_ok-merging.merging in
     let skip = c.bytes_before_keys-skip in
     IfOk-weaker c.texts_of_count.result (λ texts. flat_map vec_items texts.items ≡ listed_rows top merging.keys merging.counts ++ total)
-    (TellsCounters c.args.options.now c.args.counters.now c.args.records)
+    (TellsCounters c.args.options.now c.args.counters c.args.records)
     (λ texts is keys so.
     let read : List Key = map (drop skip.result) keys in
     is ∙ ap (λ ns. listed_rows top merging.keys ns ++ total) (c.in_ok-merging.ensures.counts keys so)
