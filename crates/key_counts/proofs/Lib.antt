@@ -1,14 +1,15 @@
 pub mod Bounds
 pub mod Bytes
-pub mod Chosen
 pub mod Classes
 pub mod Divided
 pub mod Gatherings
 pub mod Growing
 pub mod Made
 pub mod Marks
+pub mod Once
 pub mod Partition
 pub mod Parts
+pub mod Placed
 pub mod Recorded
 pub mod Rounds
 pub mod Segmented
