@@ -21,7 +21,7 @@ const MARKING_THREADS: usize = 4;
 const LEAST_CELLS: usize = 4;
 
 /// The mark of a cell that several keys have. A mark takes two bits.
-pub const SEVERAL: u8 = 2;
+const SEVERAL: u8 = 2;
 
 /// A byte whose four cells have several keys each.
 const ALL_SEVERAL: u8 = 0b10101010;

@@ -9,7 +9,7 @@ ghost use Rattle.key_counts.specs.Segments.{IsSegment, keys_behind};
 ghost use Rattle.key_index.specs.Keys.{Key};
 
 use crate::counts::KeyCounts;
-use crate::filter::{Filter, PARTS, Place, SEVERAL, mark_at, threads_for};
+use crate::filter::{Filter, PARTS, Place, mark_at, threads_for};
 use crate::hashes::{Placed, list_in, placed_of};
 use crate::merging::Segment;
 use lane_words::Memory;
@@ -36,11 +36,9 @@ pub struct Twins {
 fn class_at(class: u8, bytes: &[u8], cell: usize) -> u8
     ensures { result ≡ class_at class bytes.now cell }
 {
-    if mark_at(bytes, cell) == SEVERAL {
-        class
-    } else {
-        0
-    }
+    // A processor that had to guess the mark would wait for the memory of one cell after another.
+    let by_mark = [0, 0, class, 0];
+    by_mark[mark_at(bytes, cell) as usize]
 }
 
 /// Writes the classes of the entries of a part, from the marks of this.
