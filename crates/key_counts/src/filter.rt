@@ -36,7 +36,8 @@ pub struct Place {
 }
 
 impl Place {
-    /// How the keys of so many entries are placed: in eight cells for each entry, or more.
+    /// How the keys of so many entries are placed: in eight cells for each entry, or more. It only
+    /// decides how many keys share a cell.
     pub fn of(hasher: KeyHash, entries: usize) -> Place
         requires { entries ≤ MOST_RECORDS }
     {
