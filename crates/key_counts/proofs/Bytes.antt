@@ -49,14 +49,7 @@ fits byte (suc (suc zero)) low small few = omega arith
 fits byte (suc (suc (suc zero))) low small few = omega arith
 fits byte (suc (suc (suc (suc s)))) low small few = absurd (omega (arith, low))
 
--- bytes without marks, and with all of them
-pub no-marks : (s : ℕ) → s < 4 → mark_at 0 s ≡ 0
-no-marks zero lt = refl
-no-marks (suc zero) lt = refl
-no-marks (suc (suc zero)) lt = refl
-no-marks (suc (suc (suc zero))) lt = refl
-no-marks (suc (suc (suc (suc s)))) lt = absurd (omega (arith, lt))
-
+-- a byte with all marks
 pub all-several : (s : ℕ) → s < 4 → mark_at ALL_SEVERAL s ≡ 2
 all-several zero lt = refl
 all-several (suc zero) lt = refl

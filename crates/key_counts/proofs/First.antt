@@ -1,12 +1,12 @@
 -- Workers that have only the first of their entries left.
-use Rattle.std.proofs.Common.{◌≡◌, ◌∙◌, ◌+◌, ◌-◌, ◌<◌, ◌≤◌, ℕ, List, [], length, take, drop, get_or, sym, ap, arith, get_or-take}
+use Rattle.std.proofs.Common.{◌≡◌, ◌∙◌, ◌+◌, ◌<◌, ◌≤◌, ℕ, List, [], length, drop, get_or, sym, ap, arith, get_or-take}
 use Rattle.std.proofs.lemmas.List.{length-take, take_all}
 use Rattle.key_index.specs.Keys.{Key, key_at}
 use Rattle.key_counts.specs.Counts.{Entries}
 use Rattle.key_counts.specs.Partition.{HasCounts}
 use Rattle.key_counts.specs.Private.Prepared.{AreFirstOf}
 use Rattle.key_counts.specs.Private.Twins.{AreClassesOf}
-use Rattle.key_counts.specs.Private.Walks.{AreNext, IsNext}
+use Rattle.key_counts.specs.Private.Walks.{AreNext}
 use Rattle.key_counts.specs.declared.merging.Segment.{Segment}
 
 pub first-all : (entries : Entries) → HasCounts entries → AreFirstOf entries entries

@@ -1,6 +1,5 @@
 pub mod Bounds
 pub mod Bytes
-pub mod Chosen
 pub mod KeyClasses
 pub mod Divided
 pub mod First
@@ -8,8 +7,10 @@ pub mod Growing
 pub mod Made
 pub mod Members
 pub mod Marks
+pub mod Once
 pub mod Partition
 pub mod Parts
+pub mod Placed
 pub mod Recorded
 pub mod Rounds
 pub mod Segmented

@@ -1,5 +1,5 @@
 -- Entries merged in their order.
-use Rattle.std.proofs.Common.{◌≡◌, ◌≢◌, ◌∙◌, ◌+◌, ◌*◌, ◌<◌, ◌≤◌, ℕ, zero, suc, Bool, true, false, Some, None, List, [], ◌∷◌, ◌++◌, length, map, take, drop, cond, get_or, sym, subst, ap, ap₂, refl, arith, inl, inr, append_assoc, length-append, get_or-set_same, get_or-set_other, length-set}
+use Rattle.std.proofs.Common.{◌≡◌, ◌≢◌, ◌∙◌, ◌+◌, ◌*◌, ◌<◌, ◌≤◌, ℕ, zero, suc, Bool, true, false, Some, None, List, [], ◌∷◌, ◌++◌, length, map, take, drop, cond, get_or, sym, subst, ap, refl, arith, inl, inr, append_assoc, length-append, get_or-set_same, get_or-set_other, length-set}
 use Rattle.std.specs.Prelude.{count_by, filter, if◌then◌else◌, slice_set, sum_by}
 use Rattle.std.specs.List.{fold}
 use Rattle.std.specs.Str.{bytes_eq}

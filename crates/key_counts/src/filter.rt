@@ -1,27 +1,24 @@
-//! A filter of keys: which of them may have a twin.
+//! The marks of cells: which keys may have a twin.
 
-ghost use Rattle.std.specs.Prelude.{◌≡◌, ◌≢◌, ◌<◌, ◌≤◌, ◌+◌, ◌++◌, ◌∷◌, ◌/◌, ◌%◌, ◌^◌, [], All, IfOk, List, ℕ, bit_and, filter, length, map, min, slice_index_or, take, vec_items};
-ghost use Rattle.key_index.specs.Keys.{Key};
-ghost use Rattle.key_index.specs.Private.KeyHash.{hash_of};
-ghost use Rattle.key_counts.specs.Counts.{Entries};
-ghost use Rattle.key_counts.specs.Private.Filter.{AreMarked, AreMarkedFrom, IsFilterOf, cell_of, is_in, is_shared, mark_at, mark_in, part_of};
-ghost use Rattle.key_counts.specs.Private.Hashes.{AreHashesOf, IsHashed};
-ghost use Rattle.key_counts.specs.Private.Parts.{part_behind};
-ghost use Rattle.key_counts.specs.Private.Results.{AreFound};
+ghost use Rattle.std.specs.Prelude.{◌≡◌, ◌≢◌, ◌≤◌, ◌+◌, ◌++◌, ◌∷◌, ◌%◌, [], IfOk, List, ℕ, min};
+ghost use Rattle.key_counts.specs.Private.Filter.{AreMarked, AreMarkedIn, IsFilterOf, cell_of, cells_in, mark_at, mark_in, part_of};
+ghost use Rattle.key_counts.specs.Private.Results.{AreFound, list_of};
 
-use crate::hashes::hashes_in;
-use crate::merging::Segment;
+use crate::hashes::{Placed, list_in};
 use key_index::KeyHash;
-use lane_words::Memory;
+use lane_words::{MOST_RECORDS, Memory};
 use parallel::{LEAST_KEYS, collected, for_each_mut, no_results};
 use std::alloc::Global;
 use std::thread::Threads;
 
-/// In how many parts the cells are marked, each in a thread of its own.
-pub const PARTS: usize = 4;
+/// Into how many parts the cells are divided. The marks of one part fit a processor's cache.
+pub const PARTS: usize = 64;
 
-/// How many hashes are looked through together for those of a part.
-const LOOKED_THROUGH: usize = 64;
+/// How many threads mark parts.
+const MARKING_THREADS: usize = 4;
+
+/// The fewest cells of a part.
+const LEAST_CELLS: usize = 4;
 
 /// The mark of a cell that several keys have. A mark takes two bits.
 const SEVERAL: u8 = 2;
@@ -35,7 +32,21 @@ pub struct Place {
     /// The hash of the keys.
     pub hasher: KeyHash,
     /// The number of cells of a part, a power of two, less 1.
-    pub mask: usize,
+    mask: u32,
+}
+
+impl Place {
+    /// How the keys of so many entries are placed: in eight cells for each entry, or more. It only
+    /// decides how many keys share a cell.
+    pub fn of(hasher: KeyHash, entries: usize) -> Place
+        requires { entries ≤ MOST_RECORDS }
+    {
+        let cells = 8 * entries.next_power_of_two() / PARTS;
+        Place {
+            hasher,
+            mask: (cells.max(LEAST_CELLS) - 1) as u32,
+        }
+    }
 }
 
 /// A filter of keys. Whoever has a cell of its own has no twin.
@@ -53,15 +64,15 @@ pub struct Filter {
 pub fn part_of(hash: u64) -> usize
     ensures { result ≡ part_of hash }
 {
-    (hash >> 31) as usize % PARTS
+    (hash >> 27) as usize % PARTS
 }
 
 /// The index of the cell of a hash in its part.
 #[inline(always)]
-fn cell_of(place: &Place, hash: u64) -> usize
+pub fn cell_of(place: &Place, hash: u64) -> u32
     ensures { result ≡ cell_of place.now hash }
 {
-    hash as usize & place.mask
+    (hash & u64::from(place.mask)) as u32
 }
 
 /// The mark of a cell in the byte that has it.
@@ -85,86 +96,40 @@ fn with_mark(byte: u8, cell: usize) -> u8
     byte + (1 << (2 * (cell % 4)))
 }
 
-/// Marks the cell of a key of this hash, if it is in this part.
+/// Marks the cell of one more entry.
 #[inline(always)]
-fn mark_key(bytes: &mut [u8], place: &Place, part: usize, hash: u64)
-    ensures { (done : List Key) (key : Key) → hash ≡ hash_of place.now.hasher key
-        → AreMarked place.now part done bytes.old
-        → AreMarked place.now part (done ++ key ∷ []) bytes.new }
+fn mark_cell(bytes: &mut [u8], cell: usize)
+    ensures { (cells : List ℕ) → AreMarked cells bytes.old
+        → AreMarked (cells ++ cell ∷ []) bytes.new }
 {
-    let cell = cell_of(place, hash);
     let at = cell / 4;
-    if part_of(hash) == part && at < bytes.len() {
+    if at < bytes.len() {
         bytes[at] = with_mark(bytes[at], cell);
     }
 }
 
-/// Writes the hashes of a part among these to the front of a buffer, and returns how many they are.
-///
-/// Which hashes are of the part cannot be guessed. If a processor had to guess it before it marks a
-/// cell, it would wait for the memory of one cell after another.
-fn choose(chosen: &mut [u64; LOOKED_THROUGH], part: usize, hashes: &[u64]) -> usize
-    requires { length hashes.now ≤ LOOKED_THROUGH }
-    ensures bound { result ≤ LOOKED_THROUGH }
-    ensures chosen { take result chosen.new ≡ filter (is_in part) hashes.now }
+/// Marks the cells of the entries of a part.
+fn mark_cells(bytes: &mut [u8], list: &[Placed])
+    ensures { (cells : List ℕ) → AreMarked cells bytes.old
+        → AreMarked (cells ++ cells_in list.now) bytes.new }
 {
-    let mut count = 0;
-    for i in 0..hashes.len() {
-        chosen[count] = hashes[i];
-        if part_of(hashes[i]) == part {
-            count += 1;
-        }
-    }
-    count
-}
-
-/// Marks the cells of keys of these hashes that are in this part.
-fn mark_keys(bytes: &mut [u8], place: &Place, part: usize, hashes: &[u64])
-    ensures { (done keys : List Key) → hashes.now ≡ map (hash_of place.now.hasher) keys
-        → AreMarked place.now part done bytes.old
-        → AreMarked place.now part (done ++ keys) bytes.new }
-{
-    for i in 0..hashes.len() {
-        mark_key(bytes, place, part, hashes[i]);
+    for i in 0..list.len() {
+        mark_cell(bytes, list[i].cell as usize);
     }
 }
 
-/// Marks the cells of the keys of a segment, from the hashes of its worker's entries.
-fn mark_segment(bytes: &mut [u8], place: &Place, part: usize, hashes: &[u64], segment: Segment)
-    requires order { segment.from ≤ segment.to }
-    requires within { segment.to ≤ length hashes.now }
-    ensures { (entries : Entries) (skip : ℕ) (done : List Key)
-        → AreHashesOf place.now.hasher skip entries hashes.now
-        → AreMarked place.now part done bytes.old
-        → AreMarked place.now part (done ++ part_behind skip entries segment) bytes.new }
-{
-    let mut chosen = [0; LOOKED_THROUGH];
-    let mut code = segment.from;
-    while code < segment.to {
-        let count = LOOKED_THROUGH.min(segment.to - code);
-        let found = choose(&mut chosen, part, &hashes[code..code + count]);
-        mark_keys(bytes, place, part, &chosen[..found]);
-        code += count;
-    }
-}
-
-/// The marks of the cells of a part, from the hashes of each worker's entries.
+/// The marks of the cells of a part, from the entries of each worker.
 fn marks_of(
     alloc: Global,
     place: &Place,
-    hashes: &[Vec<u64>],
-    segments: &[Segment],
+    workers: &[Vec<Vec<Placed>>],
     part: usize,
 ) -> Result<Vec<u8>, Memory>
-    requires { All (IsHashed hashes.now) segments.now }
-    ensures { IfOk result (λ bytes.
-        AreMarkedFrom place.now hashes.now segments.now part bytes.items) }
+    ensures { IfOk result (λ bytes. AreMarkedIn workers.now part bytes.items) }
 {
-    let mut bytes = vec![in alloc; 0u8; place.mask / 4 + 1]?;
-    for i in 0..segments.len() {
-        let segment = segments[i];
-        let own = hashes_in(hashes, segment.worker);
-        mark_segment(&mut bytes, place, part, own, segment);
+    let mut bytes = vec![in alloc; 0u8; place.mask as usize / 4 + 1]?;
+    for w in 0..workers.len() {
+        mark_cells(&mut bytes, list_in(workers[w].as_slice(), part));
     }
     Ok(bytes)
 }
@@ -174,13 +139,11 @@ fn mark_parallel<R: Threads + Sync>(
     rt: &R,
     alloc: Global,
     place: &Place,
-    hashes: &[Vec<u64>],
-    segments: &[Segment],
+    workers: &[Vec<Vec<Placed>>],
     threads: usize,
 ) -> Result<Vec<Result<Vec<u8>, Memory>>, Memory>
-    requires segments { All (IsHashed hashes.now) segments.now }
     ensures { IfOk result (λ found.
-        AreFound PARTS (AreMarkedFrom place.now hashes.now segments.now) found.items) }
+        AreFound PARTS (AreMarkedIn workers.now) found.items) }
 {
     let mut found = no_results(alloc, PARTS)?;
     for_each_mut(
@@ -188,7 +151,7 @@ fn mark_parallel<R: Threads + Sync>(
         &mut found,
         threads,
         &|part, own: &mut Result<Vec<u8>, Memory>| {
-            *own = marks_of(alloc, place, hashes, segments, part);
+            *own = marks_of(alloc, place, workers, part);
         },
     );
     Ok(found)
@@ -196,21 +159,18 @@ fn mark_parallel<R: Threads + Sync>(
 
 /// In how many threads work on so many pieces is done. Few entries are not worth a thread.
 pub fn threads_for(place: &Place, pieces: usize) -> usize {
-    // A part has twice as many cells as there are entries, or more.
-    if place.mask / 2 < LEAST_KEYS {
+    // All parts together have eight times as many cells as there are entries, or more.
+    if place.mask as usize * PARTS / 8 < LEAST_KEYS {
         return 1;
     }
     pieces
 }
 
-/// The mark of a cell. A cell that is not there counts as one of several keys.
+/// The mark of a cell of a part. A cell that is not there counts as one of several keys.
 #[inline(always)]
-fn mark_at(parts: &[Vec<u8>], part: usize, cell: usize) -> u8
-    ensures { result ≡ mark_at (map vec_items parts.now) part cell }
+pub fn mark_at(bytes: &[u8], cell: usize) -> u8
+    ensures { result ≡ mark_at bytes.now cell }
 {
-    let Some(bytes) = parts.get(part) else {
-        return mark_in(ALL_SEVERAL, cell);
-    };
     match bytes.get(cell / 4) {
         Some(byte) => mark_in(*byte, cell),
         None => mark_in(ALL_SEVERAL, cell),
@@ -218,33 +178,31 @@ fn mark_at(parts: &[Vec<u8>], part: usize, cell: usize) -> u8
 }
 
 impl Filter {
-    /// The filter of the keys of these segments, from the hashes of each worker's entries.
+    /// The filter of the keys of all workers' entries.
     pub fn of<R: Threads + Sync>(
         rt: &R,
         alloc: Global,
         place: Place,
-        hashes: &[Vec<u64>],
-        segments: &[Segment],
+        workers: &[Vec<Vec<Placed>>],
     ) -> Result<Filter, Memory>
-        requires segments { All (IsHashed hashes.now) segments.now }
-        ensures { IfOk result (IsFilterOf place hashes.now segments.now) }
+        ensures { IfOk result (IsFilterOf place workers.now) }
     {
-        let threads = threads_for(&place, PARTS);
-        let found = mark_parallel(rt, alloc, &place, hashes, segments, threads)?;
+        let threads = threads_for(&place, MARKING_THREADS);
+        let found = mark_parallel(rt, alloc, &place, workers, threads)?;
         Ok(Filter {
             place,
             parts: collected(alloc, found)?,
         })
     }
 
-    /// Whether a key of this hash may have a twin.
+    /// The marks of the cells of a part.
     #[inline(always)]
-    #[tactic(auto, unfolding(crate::specs::Private::Filter::is_shared))]
-    pub fn is_shared(&self, hash: u64) -> bool
-        ensures { (key : Key) → hash ≡ hash_of self.now.place.hasher key
-            → result ≡ is_shared self.now key }
+    pub fn marks_in(&self, part: usize) -> &[u8]
+        ensures { result.now ≡ list_of self.now.parts.items part }
     {
-        let cell = cell_of(&self.place, hash);
-        mark_at(self.parts.as_slice(), part_of(hash), cell) == SEVERAL
+        match self.parts.get(part) {
+            Some(bytes) => bytes.as_slice(),
+            None => &[],
+        }
     }
 }

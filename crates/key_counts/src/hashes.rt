@@ -1,80 +1,111 @@
-//! The hashes of the keys of several workers' entries, each made once.
+//! The entries of several workers, each in the part of its key's cell. Each key is hashed once.
 
-ghost use Rattle.std.specs.Prelude.{◌≡◌, ◌<◌, IfOk, ℕ, drop, length, slice_index};
-ghost use Rattle.key_index.specs.Keys.{key_at};
-ghost use Rattle.key_index.specs.Private.KeyHash.{hash_of};
-ghost use Rattle.key_counts.specs.Private.Hashes.{AreHashed, AreHashesIn, AreHashesOf};
+ghost use Rattle.std.specs.Prelude.{◌≡◌, IfOk, ℕ, length};
+ghost use Rattle.key_counts.specs.Counts.{Entries};
+ghost use Rattle.key_counts.specs.Private.Hashes.{ArePlaced, ArePlacedIn, ArePlacedTo};
 ghost use Rattle.key_counts.specs.Private.Results.{AreFound, list_of};
 
 use crate::counts::KeyCounts;
+use crate::filter::{PARTS, Place, cell_of, part_of};
 use crate::merging::behind;
-use key_index::KeyHash;
 use lane_words::Memory;
 use parallel::{collected, for_each_mut, no_results};
 use std::alloc::Global;
 use std::thread::Threads;
 
-/// The hashes of entries, each of the key without its first `skip` bytes.
-fn hashes_of_entries(
-    alloc: Global,
-    hasher: &KeyHash,
-    entries: &KeyCounts,
-    skip: usize,
-) -> Result<Vec<u64>, Memory>
-    ensures { IfOk result (λ hashes. AreHashesOf hasher.now skip entries.now hashes.items) }
-{
-    let mut hashes = Vec::with_capacity(alloc, entries.len())?;
-    for code in 0..entries.len() {
-        hashes.push(hasher.hash_of(behind(entries.key(code), skip)))?;
-    }
-    Ok(hashes)
+/// An entry with the cell of its key.
+#[derive(Clone, Copy)]
+pub struct Placed {
+    /// The index of the cell in its part.
+    pub cell: u32,
+    /// The code of the entry.
+    pub code: u32,
 }
 
-/// Hashes each worker's entries, in so many threads at most.
-fn hash_parallel<R: Threads + Sync>(
+/// A list for each part, with memory for its share of so many entries and an eighth more.
+fn empty_lists(alloc: Global, entries: usize) -> Result<Vec<Vec<Placed>>, Memory>
+    ensures { IfOk result (λ lists. (place : Place) (skip : ℕ) (entries : Entries)
+        → ArePlacedTo place skip entries 0 lists.items) }
+{
+    let share = entries / PARTS;
+    let mut lists = Vec::with_capacity(alloc, PARTS)?;
+    for _part in 0..PARTS {
+        lists.push(Vec::with_capacity(alloc, share + share / 8)?)?;
+    }
+    Ok(lists)
+}
+
+/// Places entries by their keys, each without its first `skip` bytes.
+fn placed_entries(
+    alloc: Global,
+    place: &Place,
+    entries: &KeyCounts,
+    skip: usize,
+) -> Result<Vec<Vec<Placed>>, Memory>
+    ensures { IfOk result (λ lists. ArePlacedTo place.now skip entries.now
+        (length entries.now.keys) lists.items) }
+{
+    let Ok(count) = u32::try_from(entries.len()) else {
+        return Err(Memory);
+    };
+    let mut lists = empty_lists(alloc, entries.len())?;
+    for code in 0..count {
+        let hash = place
+            .hasher
+            .hash_of(behind(entries.key(code as usize), skip));
+        let cell = cell_of(place, hash);
+        lists[part_of(hash)].push(Placed { cell, code })?;
+    }
+    Ok(lists)
+}
+
+/// Places each worker's entries, in so many threads at most.
+fn place_parallel<R: Threads + Sync>(
     rt: &R,
     alloc: Global,
-    hasher: &KeyHash,
+    place: &Place,
     workers: &[KeyCounts],
     skip: usize,
     threads: usize,
-) -> Result<Vec<Result<Vec<u64>, Memory>>, Memory>
-    ensures { IfOk result (λ found.
-        AreFound (length workers.now) (AreHashesIn hasher.now skip workers.now) found.items) }
+) -> Result<Vec<Result<Vec<Vec<Placed>>, Memory>>, Memory>
+    ensures { IfOk result (λ found. AreFound (length workers.now)
+        (ArePlacedIn place.now skip workers.now) found.items) }
 {
     let mut found = no_results(alloc, workers.len())?;
     for_each_mut(
         rt,
         &mut found,
         threads,
-        &|w, own: &mut Result<Vec<u64>, Memory>| {
-            *own = hashes_of_entries(alloc, hasher, &workers[w], skip);
+        &|w, own: &mut Result<Vec<Vec<Placed>>, Memory>| {
+            *own = placed_entries(alloc, place, &workers[w], skip);
         },
     );
     Ok(found)
 }
 
-/// The hash of each entry of each worker, of its key without its first `skip` bytes, made in so
-/// many threads at most.
-pub fn hashes_of<R: Threads + Sync>(
+/// The entries of each worker, placed by their keys without the first `skip` bytes in so many
+/// threads at most.
+pub fn placed_of<R: Threads + Sync>(
     rt: &R,
     alloc: Global,
-    hasher: &KeyHash,
+    place: &Place,
     workers: &[KeyCounts],
     skip: usize,
     threads: usize,
-) -> Result<Vec<Vec<u64>>, Memory>
-    ensures { IfOk result (λ lists. AreHashed hasher.now skip workers.now lists.items) }
+) -> Result<Vec<Vec<Vec<Placed>>>, Memory>
+    ensures { IfOk result (λ placed. ArePlaced place.now skip workers.now placed.items) }
 {
-    let found = hash_parallel(rt, alloc, hasher, workers, skip, threads)?;
+    let found = place_parallel(rt, alloc, place, workers, skip, threads)?;
     collected(alloc, found)
 }
 
-/// The hashes of one worker's entries.
+/// The entries of one part.
 #[inline(always)]
-pub fn hashes_in(lists: &[Vec<u64>], worker: usize) -> &[u64]
-    requires { worker < length lists.now }
-    ensures { result.now ≡ list_of lists.now worker }
+pub fn list_in(lists: &[Vec<Placed>], part: usize) -> &[Placed]
+    ensures { result.now ≡ list_of lists.now part }
 {
-    lists[worker].as_slice()
+    match lists.get(part) {
+        Some(list) => list.as_slice(),
+        None => &[],
+    }
 }

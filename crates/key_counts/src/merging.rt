@@ -2,7 +2,7 @@
 
 ghost use Rattle.std.specs.Prelude.{◌≡◌, ◌<◌, ◌≤◌, ◌+◌, ◌-◌, ◌^◌, ◌++◌, All, IfOk, drop, length, min};
 ghost use Rattle.key_counts.specs.Counts.{total};
-ghost use Rattle.key_counts.specs.Partition.{HasCounts};
+ghost use Rattle.key_counts.specs.Partition.{AreAll, HasCounts, lens_of};
 ghost use Rattle.key_counts.specs.Merging.{IsDivided, part_at};
 ghost use Rattle.key_counts.specs.Private.Prepared.{AreBounds, ArePositionsAt, HasLeft, HoldsFirst, IsBound, IsPrepared, IsSameBut, keys_before, totals_before};
 ghost use Rattle.key_counts.specs.Segments.{IsSegment, counts_of, is_key, keys_behind, keys_of, merged_counts};
@@ -68,16 +68,6 @@ fn len_of(workers: &[KeyCounts], segments: &[Segment]) -> Result<usize, Memory>
     Ok(entries)
 }
 
-/// How the keys of so many entries are placed: in eight cells for each entry, or more.
-fn place_of(hasher: RandomState, entries: usize) -> Place
-    requires { entries ≤ MOST_RECORDS }
-{
-    Place {
-        hasher: KeyHash::of(hasher),
-        mask: 2 * entries.next_power_of_two() - 1,
-    }
-}
-
 /// Where a part of the segments begins.
 #[derive(Clone, Copy, Debug)]
 pub struct Start {
@@ -130,6 +120,7 @@ impl Prepared {
         skip: usize,
     ) -> Result<Prepared, Memory>
         requires segments { All (IsSegment workers.items) segments.items }
+        requires all { AreAll (lens_of workers.items) segments.items }
         requires sums { (x : Key) → total (is_key x) (keys_behind skip workers.items segments.items)
             (counts_of workers.items segments.items) < 2 ^ 64 }
         ensures prepared { IfOk result IsPrepared }
@@ -291,6 +282,7 @@ impl Merging {
         skip: usize,
     ) -> Result<Merging, Memory>
         requires segments { All (IsSegment workers.items) segments.items }
+        requires all { AreAll (lens_of workers.items) segments.items }
         requires sums { (x : Key) → total (is_key x) (keys_behind skip workers.items segments.items)
             (counts_of workers.items segments.items) < 2 ^ 64 }
         ensures keys { IfOk result
@@ -300,7 +292,7 @@ impl Merging {
         ensures left { IfOk result (λ m. m.left ≡ length m.ends) }
     {
         let entries = len_of(workers.as_slice(), segments.as_slice())?;
-        let place = place_of(hasher, entries);
+        let place = Place::of(KeyHash::of(hasher), entries);
         let prepared = Prepared::new(rt, alloc, hasher, place, workers, segments, skip)?;
         let bounds = prepared.bounds(alloc)?;
         let left = bounds.len() - 1;

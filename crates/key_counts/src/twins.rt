@@ -1,15 +1,16 @@
 //! Which entries may have a twin: another entry of the same key. They fall into classes.
 
-ghost use Rattle.std.specs.Prelude.{◌≡◌, ◌<◌, ◌≤◌, All, IfOk, length};
-ghost use Rattle.key_counts.specs.Private.Results.{AreFound, list_of};
-ghost use Rattle.key_counts.specs.Private.Twins.{AreClassed, AreClassesBy, AreClassesIn, HasClasses, IsOnce, class_in, class_of};
+ghost use Rattle.std.specs.Prelude.{◌≡◌, ◌<◌, ◌≤◌, All, IfOk, ℕ, length};
+ghost use Rattle.key_counts.specs.Partition.{AreAll, lens_of};
+ghost use Rattle.key_counts.specs.Private.Hashes.{AreBelow};
+ghost use Rattle.key_counts.specs.Private.Results.{AreFound, AreMade, list_of};
+ghost use Rattle.key_counts.specs.Private.Twins.{AreClassesBy, AreClassesIn, AreWithin, AreWritten, HasClasses, IsOnce, class_at, class_in};
 ghost use Rattle.key_counts.specs.Segments.{IsSegment, keys_behind};
 ghost use Rattle.key_index.specs.Keys.{Key};
-ghost use Rattle.key_index.specs.Private.KeyHash.{hash_of};
 
 use crate::counts::KeyCounts;
-use crate::filter::{Filter, Place, part_of, threads_for};
-use crate::hashes::{hashes_in, hashes_of};
+use crate::filter::{Filter, PARTS, Place, mark_at, threads_for};
+use crate::hashes::{Placed, list_in, placed_of};
 use crate::merging::Segment;
 use lane_words::Memory;
 use parallel::{collected, for_each_mut, no_results};
@@ -29,69 +30,114 @@ pub struct Twins {
     classes: Vec<Vec<u8>>,
 }
 
-/// The class of a key of this hash, from 1, or 0 if it has no twin.
+/// The class of a cell of a part, from the marks of this: that of the part if several keys have the
+/// cell.
 #[inline(always)]
-fn class_of(filter: &Filter, hash: u64) -> u8
-    ensures { (key : Key) → hash ≡ hash_of filter.now.place.hasher key
-        → result ≡ class_of filter.now key }
+fn class_at(class: u8, bytes: &[u8], cell: usize) -> u8
+    ensures { result ≡ class_at class bytes.now cell }
 {
-    if !filter.is_shared(hash) {
-        return 0;
-    }
-    (1 + part_of(hash) % CLASSES) as u8
+    // A processor that had to guess the mark would wait for the memory of one cell after another.
+    let by_mark = [0, 0, class, 0];
+    by_mark[mark_at(bytes, cell) as usize]
 }
 
-/// The class of a key of each of these hashes.
-fn classes_of(alloc: Global, filter: &Filter, hashes: &[u64]) -> Result<Vec<u8>, Memory>
-    ensures { IfOk result (λ classes. AreClassesBy filter.now hashes.now classes.items) }
+/// Writes the classes of the entries of a part, from the marks of this.
+fn write_classes(classes: &mut [u8], class: u8, bytes: &[u8], list: &[Placed])
+    requires { All (λ e. e.code < length classes.old) list.now }
+    ensures { (right : ℕ → ℕ)
+        → All (λ e. class_at class bytes.now e.cell ≡ right e.code) list.now
+        → AreWritten right list.now classes.old classes.new }
 {
-    let mut classes = Vec::with_capacity(alloc, hashes.len())?;
-    for code in 0..hashes.len() {
-        classes.push(class_of(filter, hashes[code]))?;
+    for i in 0..list.len() {
+        let Placed { cell, code } = list[i];
+        classes[code as usize] = class_at(class, bytes, cell as usize);
+    }
+}
+
+/// The classes of so many entries, from where they were placed.
+fn classes_of(
+    alloc: Global,
+    filter: &Filter,
+    lists: &[Vec<Placed>],
+    entries: usize,
+) -> Result<Vec<u8>, Memory>
+    requires { AreBelow entries lists.now }
+    ensures { IfOk result (λ classes. AreClassesBy filter.now lists.now entries classes.items) }
+{
+    let mut classes = vec![in alloc; 0u8; entries]?;
+    for part in 0..PARTS {
+        let class = (1 + part % CLASSES) as u8;
+        write_classes(
+            &mut classes,
+            class,
+            filter.marks_in(part),
+            list_in(lists, part),
+        );
     }
     Ok(classes)
 }
 
-/// Finds the classes of the hashes of each worker, in so many threads at most.
+/// The classes of one worker's entries.
+fn classes_of_worker(
+    alloc: Global,
+    filter: &Filter,
+    workers: &[KeyCounts],
+    placed: &[Vec<Vec<Placed>>],
+    w: usize,
+) -> Result<Vec<u8>, Memory>
+    requires within { AreWithin workers.now placed.now }
+    requires worker { w < length workers.now }
+    ensures { IfOk result (λ classes.
+        AreClassesIn filter.now workers.now placed.now w classes.items) }
+{
+    classes_of(alloc, filter, placed[w].as_slice(), workers[w].len())
+}
+
+/// Finds the classes of each worker's entries, in so many threads at most.
 fn class_parallel<R: Threads + Sync>(
     rt: &R,
     alloc: Global,
     filter: &Filter,
-    hashes: &[Vec<u64>],
+    workers: &[KeyCounts],
+    placed: &[Vec<Vec<Placed>>],
     threads: usize,
 ) -> Result<Vec<Result<Vec<u8>, Memory>>, Memory>
-    ensures { IfOk result (λ found.
-        AreFound (length hashes.now) (AreClassesIn filter.now hashes.now) found.items) }
+    requires { AreWithin workers.now placed.now }
+    ensures { IfOk result (λ found. AreFound (length workers.now)
+        (AreClassesIn filter.now workers.now placed.now) found.items) }
 {
-    let mut found = no_results(alloc, hashes.len())?;
+    let mut found = no_results(alloc, workers.len())?;
     for_each_mut(
         rt,
         &mut found,
         threads,
         &|w, own: &mut Result<Vec<u8>, Memory>| {
-            *own = classes_of(alloc, filter, hashes_in(hashes, w));
+            *own = classes_of_worker(alloc, filter, workers, placed, w);
         },
     );
     Ok(found)
 }
 
-/// The classes of the hashes of each worker, found in so many threads at most.
+/// The classes of each worker's entries, found in so many threads at most.
 fn classed<R: Threads + Sync>(
     rt: &R,
     alloc: Global,
     filter: &Filter,
-    hashes: &[Vec<u64>],
+    workers: &[KeyCounts],
+    placed: &[Vec<Vec<Placed>>],
     threads: usize,
 ) -> Result<Vec<Vec<u8>>, Memory>
-    ensures { IfOk result (λ lists. AreClassed filter.now hashes.now lists.items) }
+    requires { AreWithin workers.now placed.now }
+    ensures { IfOk result (λ lists. AreMade (length workers.now)
+        (AreClassesIn filter.now workers.now placed.now) lists.items) }
 {
-    let found = class_parallel(rt, alloc, filter, hashes, threads)?;
+    let found = class_parallel(rt, alloc, filter, workers, placed, threads)?;
     collected(alloc, found)
 }
 
 impl Twins {
-    /// Which entries of these workers may have a twin in these segments, where each key stands
-    /// without its first `skip` bytes.
+    /// Which entries of these workers may have a twin, where each key stands without its first
+    /// `skip` bytes. The segments have all entries.
     pub fn of<R: Threads + Sync>(
         rt: &R,
         alloc: Global,
@@ -100,16 +146,17 @@ impl Twins {
         segments: &[Segment],
         skip: usize,
     ) -> Result<Twins, Memory>
-        requires { All (IsSegment workers.now) segments.now }
+        requires segments { All (IsSegment workers.now) segments.now }
+        requires all { AreAll (lens_of workers.now) segments.now }
         ensures once { IfOk result (λ twins.
             IsOnce (class_in twins) (keys_behind skip workers.now segments.now)) }
         ensures classes { IfOk result (λ twins. HasClasses twins skip workers.now) }
         ensures bound { IfOk result (λ twins. (x : Key) → class_in twins x ≤ CLASSES) }
     {
         let threads = threads_for(&place, workers.len());
-        let hashes = hashes_of(rt, alloc, &place.hasher, workers, skip, threads)?;
-        let filter = Filter::of(rt, alloc, place, hashes.as_slice(), segments)?;
-        let classes = classed(rt, alloc, &filter, hashes.as_slice(), threads)?;
+        let placed = placed_of(rt, alloc, &place, workers, skip, threads)?;
+        let filter = Filter::of(rt, alloc, place, placed.as_slice())?;
+        let classes = classed(rt, alloc, &filter, workers, placed.as_slice(), threads)?;
         Ok(Twins {
             filter: Snapshot::of(&filter),
             classes,

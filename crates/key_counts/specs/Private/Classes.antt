@@ -1,10 +1,10 @@
 -- The entries of a class, in the order of the segments.
-use Rattle.std.specs.Prelude.{◌≡◌, ◌<◌, ◌≤◌, ◌+◌, ◌-◌, ◌++◌, ℕ, All, Bool, true, List, [], ◌∷◌, filter, length, map, slice_index_or, take}
+use Rattle.std.specs.Prelude.{◌≡◌, ◌<◌, ◌+◌, ◌-◌, ◌++◌, ℕ, All, Bool, List, [], ◌∷◌, filter, length, map, slice_index_or, take}
 use Rattle.key_index.specs.Keys.{Key, distinct, id_of, with_key}
 use Rattle.key_counts.specs.Counts.{Entries}
 use Rattle.key_counts.specs.Partition.{HasCounts}
 use Rattle.key_counts.specs.Private.Twins.{HasClasses, class_in}
-use Rattle.key_counts.specs.Private.Walks.{AreNext, AreTotalled, IsAt, IsNext, is_of, kept}
+use Rattle.key_counts.specs.Private.Walks.{AreNext, AreTotalled, IsAt, is_of, kept}
 use Rattle.key_counts.specs.Segments.{IsSegment, counts_of, keys_behind, keys_of}
 use Rattle.key_counts.specs.declared.classes.Class.{Class}
 use Rattle.key_counts.specs.declared.classes.Members.{Members}

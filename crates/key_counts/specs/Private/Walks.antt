@@ -3,9 +3,8 @@
 use Rattle.std.specs.Prelude.{◌≡◌, ◌≤◌, ◌<◌, ◌+◌, ◌-◌, ◌++◌, ◌==◌, ℕ, Bool, true, false, List, [], ◌∷◌, Option, Some, None, drop, filter, if◌then◌else◌, length, map, slice_index, slice_index_or, take}
 use Rattle.key_index.specs.Keys.{Key, distinct, id_of, is_interned, key_at, lent}
 use Rattle.key_counts.specs.Counts.{Entries, total}
-use Rattle.key_counts.specs.Private.Parts.{part_behind, part_counts}
 use Rattle.key_counts.specs.Private.Twins.{IsOnce}
-use Rattle.key_counts.specs.Segments.{counts_of, is_key, keys_behind, totals_of}
+use Rattle.key_counts.specs.Segments.{is_key, totals_of}
 use Rattle.key_counts.specs.declared.classes.Class.{Class}
 use Rattle.key_counts.specs.declared.classes.Totals.{Totals}
 use Rattle.key_counts.specs.declared.merging.Segment.{Segment}

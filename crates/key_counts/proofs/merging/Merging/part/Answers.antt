@@ -3,7 +3,7 @@ use Rattle.std.specs.Prelude.{slice_range}
 use Rattle.std.proofs.lemmas.Result.{IfOk-weaker}
 use Rattle.key_index.specs.Keys.{distinct, lent}
 use Rattle.key_counts.specs.Merging.{Parted, part_at}
-use Rattle.key_counts.specs.Private.Prepared.{HasLeft, all_keys, keys_before, totals_before, whole_of}
+use Rattle.key_counts.specs.Private.Prepared.{all_keys, keys_before, totals_before, whole_of}
 use Rattle.key_counts.specs.Segments.{merged_counts}
 use Rattle.key_counts.specs.declared.merging.Start.{Start}
 use Rattle.key_counts.proofs.Bounds.{left-less, starts-rise}

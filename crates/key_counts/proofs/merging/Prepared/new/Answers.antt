@@ -6,13 +6,11 @@ use Rattle.key_counts.specs.Counts.{Entries}
 use Rattle.key_counts.specs.Partition.{HasCounts}
 use Rattle.key_counts.specs.Private.Classes.{AreStarts, IsClass}
 use Rattle.key_counts.specs.Private.Walks.{AreClasses, is_of}
-use Rattle.key_counts.specs.Private.Prepared.{AreFirstOf, IsPrepared}
+use Rattle.key_counts.specs.Private.Prepared.{AreFirstOf}
 use Rattle.key_counts.specs.Private.Twins.{HasClasses, IsOnce, class_in}
 use Rattle.key_counts.specs.Segments.{IsSegment, counts_of, entries_of, keys_behind, keys_of}
-use Rattle.key_counts.specs.declared.classes.Class.{Class}
 use Rattle.key_counts.specs.declared.merging.Segment.{Segment}
 use Rattle.key_counts.specs.declared.twins.TheConstants.{CLASSES}
-use Rattle.key_counts.specs.declared.twins.Twins.{Twins}
 use Rattle.key_counts.proofs.First.{first-all}
 use Rattle.key_counts.proofs.Parts.{counts-len}
 use Rattle.key_counts.proofs.merging.Prepared.new.Goals as goal

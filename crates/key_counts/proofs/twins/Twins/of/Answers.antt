@@ -1,19 +1,21 @@
-use Rattle.std.proofs.Common.{Global, List, Vec, refl, subst, sym, ℕ}
-use Rattle.std.specs.Prelude.{All}
+use Rattle.std.proofs.Common.{Global, List, Vec, length, subst, sym}
 use Rattle.key_counts.specs.Private.Filter.{IsFilterOf}
-use Rattle.key_counts.specs.Private.Hashes.{AreHashed, IsHashed}
-use Rattle.key_counts.specs.Private.Twins.{AreClassed, IsOnce, class_of}
+use Rattle.key_counts.specs.Private.Hashes.{ArePlaced}
+use Rattle.key_counts.specs.Private.Results.{AreMade}
+use Rattle.key_counts.specs.Private.Twins.{AreClassesIn, AreWithin, IsOnce, class_of}
 use Rattle.key_counts.specs.Segments.{keys_behind}
 use Rattle.key_counts.specs.declared.filter.Filter.{Filter}
-use Rattle.key_counts.specs.declared.filter.Place.{Place}
+use Rattle.key_counts.specs.declared.hashes.Placed.{Placed}
 use Rattle.key_counts.specs.declared.twins.Twins.{Twins}
-use Rattle.key_counts.proofs.KeyClasses.{all-hashed, class-bound, has-classes, once-by-class}
+use Rattle.key_counts.proofs.KeyClasses.{are-within, class-bound, has-classes}
+use Rattle.key_counts.proofs.Once.{once}
 use Rattle.key_counts.proofs.twins.Twins.of.Goals as goal
 
-pub of-requires-clause-segments : goal.of-requires-clause-segments
-of-requires-clause-segments g c κs within =
-    subst (λ (ls : List (Vec ℕ Global)). All (IsHashed ls) c.args.segments.now) (sym c.as_slice.ensures.value)
-    (all-hashed c.args.place.hasher c.args.skip c.args.workers.now c.in_ok-hashes.hashes.items c.args.segments.now c.in_ok-hashes.ensures c.requires)
+pub classed-requires-after_bounds : goal.classed-requires-after_bounds
+classed-requires-after_bounds g c κs within =
+    let workers = c.args.workers.now in
+    subst (λ (ls : List (Vec (Vec Placed Global) Global)). AreWithin workers ls) (sym c.as_slice-2.ensures.value)
+    (are-within c.args.place c.args.skip workers c.in_ok-placed.placed.items c.in_ok-placed.ensures)
 
 pub returns : goal.returns
 returns g c =
@@ -22,15 +24,14 @@ returns g c =
     let workers = c.args.workers.now in
     let segments = c.args.segments.now in
     let filter = c.in_ok-filter.filter in
-    let hashes = c.in_ok-hashes.hashes.items in
-    let lists = c.in_ok-classes.classes.items in
-    let hashed : AreHashed place.hasher skip workers hashes = c.in_ok-hashes.ensures in
-    let its : IsFilterOf place hashes segments filter = subst (λ (ls : List (Vec ℕ Global)). IsFilterOf place ls segments filter) c.as_slice.ensures.value c.in_ok-filter.ensures in
-    let classed : AreClassed filter hashes lists = subst (λ (ls : List (Vec ℕ Global)). AreClassed filter ls lists) c.as_slice-2.ensures.value c.in_ok-classes.ensures in
-    let same : AreHashed filter.place.hasher skip workers hashes = subst (λ (p : Place). AreHashed p.hasher skip workers hashes) (sym its.placed) hashed in
+    let placed = c.in_ok-placed.placed.items in
+    let so : ArePlaced place skip workers placed = c.in_ok-placed.ensures in
+    let its : IsFilterOf place placed filter = subst (λ (ls : List (Vec (Vec Placed Global) Global)). IsFilterOf place ls filter) c.as_slice.ensures.value c.in_ok-filter.ensures in
+    let classed : AreMade (length workers) (AreClassesIn filter workers placed) c.in_ok-classes.classes.items =
+    subst (λ (ls : List (Vec (Vec Placed Global) Global)). AreMade (length workers) (AreClassesIn filter workers ls) c.in_ok-classes.classes.items) c.as_slice-2.ensures.value c.in_ok-classes.ensures in
     let twins : Twins = record { filter = c.of-2.result; classes = c.in_ok-classes.classes } in
     record {
-      once = subst (λ (f : Filter). IsOnce (class_of f) (keys_behind skip workers segments)) (sym c.of-2.ensures) (once-by-class filter (keys_behind skip workers segments) (its.once workers skip hashed));
-      classes = has-classes twins filter skip workers hashes lists c.of-2.ensures refl same classed;
+      once = subst (λ (f : Filter). IsOnce (class_of f) (keys_behind skip workers segments)) (sym c.of-2.ensures) (once filter place skip workers segments placed c.requires.segments c.requires.all so its);
+      classes = has-classes twins filter place skip workers placed c.of-2.ensures its.placed so classed;
       bound = class-bound c.of-2.result.value;
     }

@@ -1,6 +1,6 @@
-use Rattle.std.proofs.Common.{subst}
+use Rattle.std.proofs.Common.{List, ℕ, subst}
 use Rattle.std.specs.Prelude.{All}
-use Rattle.key_counts.specs.Partition.{HasCounts}
+use Rattle.key_counts.specs.Partition.{AreAll, HasCounts}
 use Rattle.key_stream.proofs.Totalled.{counts-are, keys-are, totals-fit}
 use Rattle.key_stream.proofs.tally.Counters.into_merging.Goals as goal
 
@@ -14,3 +14,7 @@ returns-clause-keys g c = λ keys so. keys-are c.args.skip keys c.args.self c.ne
 pub returns-clause-counts : goal.returns-clause-counts
 returns-clause-counts g c = λ keys so.
     counts-are c.args.skip keys c.args.self c.new.result so (subst (All HasCounts) c.as_slice.ensures.value c.are_counted.ensures) c.new.ensures.counts
+
+pub new-requires-clause-all : goal.new-requires-clause-all
+new-requires-clause-all g c = λ lives outlives.
+    subst (λ (ls : List ℕ). AreAll ls c.args.self.segments.items) c.requires.1.parts.lens_are c.requires.1.parts.all
