@@ -75,7 +75,9 @@ impl Counters {
     {
         are_counted(self.workers.as_slice());
         let Counters {
-            workers, segments, ..
+            workers,
+            segments,
+            ..
         } = self;
         Merging::new(rt, alloc, hasher, workers, segments, skip)
     }
