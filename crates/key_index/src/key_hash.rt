@@ -62,6 +62,17 @@ fn with_both(sum: u64, even: u64, odd: u64, word: u64) -> u64
     with_product(with_product(sum, even, low), odd, high)
 }
 
+/// The same of a word behind the first. It is 0 where the key ends before it, as most do.
+#[inline(always)]
+fn with_later(sum: u64, even: u64, odd: u64, word: u64) -> u64
+    ensures { result ≡ with_products sum (even ∷ odd ∷ []) (to_le_bytes w64 word) }
+{
+    if word == 0 {
+        return sum;
+    }
+    with_both(sum, even, odd, word)
+}
+
 /// The sum of all products of a short key, from its words.
 #[inline(always)]
 fn sum_of(seeds: &[u64; SEEDS], key: &KeyWords) -> u64
@@ -71,8 +82,8 @@ fn sum_of(seeds: &[u64; SEEDS], key: &KeyWords) -> u64
     let (first, second, third) = key.words();
     let sum = with_product(seeds[ADDED], seeds[OF_LENGTH], u32::from(key.len()));
     let sum = with_both(sum, seeds[0], seeds[1], first);
-    let sum = with_both(sum, seeds[2], seeds[3], second);
-    with_both(sum, seeds[4], seeds[5], third)
+    let sum = with_later(sum, seeds[2], seeds[3], second);
+    with_later(sum, seeds[4], seeds[5], third)
 }
 
 /// The hash of a long key.
