@@ -11,7 +11,7 @@ use crate::scattered_key::ScatteredKey;
 use crate::scattering::{SLICES, Scattered, all_shards, records_of, scatter_lists};
 use crate::shards::{GROUPS, KeyLocation, SHARDS, SHARDS_PER_GROUP};
 use lane_words::{MOST_RECORDS, Memory};
-use parallel::{LEAST_KEYS, collected};
+use parallel::{LEAST_KEYS, collected, for_each_mut, no_results, processors};
 use std::alloc::Global;
 use std::thread;
 use std::thread::Threads;
@@ -233,28 +233,7 @@ fn intern_group(
     Ok(found)
 }
 
-/// Interns each group of shards, one after another.
-fn intern_in_turn(
-    alloc: Global,
-    hasher: KeyHash,
-    lists: &[&[&[u8]]],
-    scattered: &[Scattered<'_>],
-    capacity: usize,
-) -> Result<Vec<Result<Vec<Result<InternedShard, Memory>>, Memory>>, Memory>
-    requires bound { length (lent_lists lists.now) ≤ MOST_RECORDS }
-    requires scattered { AreScattered (shard_of hasher) lists.now scattered.now }
-    ensures len { IfOk result (λ groups. vec_len groups ≡ GROUPS) }
-    ensures found { IfOk result (λ groups. AreResults
-        (IsInternedGroup (shard_of hasher) (lent_lists lists.now)) GROUPS groups.items) }
-{
-    let mut groups = Vec::with_capacity(alloc, GROUPS)?;
-    for g in 0..GROUPS {
-        groups.push(intern_group(alloc, hasher, lists, scattered, g, capacity))?;
-    }
-    Ok(groups)
-}
-
-/// Interns each group of shards, those of many records in a thread of its own.
+/// Interns each group of shards, those of many records in as many threads as there are processors.
 fn intern_groups<R: Threads + Sync>(
     rt: &R,
     alloc: Global,
@@ -269,15 +248,20 @@ fn intern_groups<R: Threads + Sync>(
     ensures found { IfOk result (λ groups. AreResults
         (IsInternedGroup (shard_of hasher) (lent_lists lists.now)) GROUPS groups.items) }
 {
-    if records_of(scattered) < LEAST_KEYS {
-        return intern_in_turn(alloc, hasher, lists, scattered, capacity);
-    }
-    let groups = thread::map_indices(
+    let threads = if records_of(scattered) < LEAST_KEYS {
+        1
+    } else {
+        processors(rt)
+    };
+    let mut groups = no_results(alloc, GROUPS)?;
+    for_each_mut(
         rt,
-        alloc,
-        GROUPS,
-        &|g| intern_group(alloc, hasher, lists, scattered, g, capacity),
-    )?;
+        &mut groups,
+        threads,
+        &|g, own: &mut Result<Vec<Result<InternedShard, Memory>>, Memory>| {
+            *own = intern_group(alloc, hasher, lists, scattered, g, capacity);
+        },
+    );
     Ok(groups)
 }
 
@@ -296,7 +280,7 @@ fn flattened(
     Ok(all)
 }
 
-/// Interns all shards, a group of them in each thread.
+/// Interns all shards, group by group.
 fn intern_shards<R: Threads + Sync>(
     rt: &R,
     alloc: Global,

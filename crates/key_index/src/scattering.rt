@@ -1,4 +1,4 @@
-//! Keys scattered to their shards, each list in a thread of its own.
+//! Keys scattered to their shards, several lists side by side.
 
 ghost use Rattle.std.specs.Prelude.{◌≡◌, ◌≤◌, ◌+◌, [], IfOk, length, map, replicate, vec_items, vec_len};
 ghost use Rattle.key_index.specs.Keys.{lent, lent_lists};
@@ -8,9 +8,8 @@ use crate::key_hash::KeyHash;
 use crate::scattered_key::ScatteredKey;
 use crate::shards::{SHARDS, shard_of};
 use lane_words::{MOST_RECORDS, Memory};
-use parallel::{LEAST_KEYS, collected};
+use parallel::{LEAST_KEYS, collected, for_each_mut, no_results, processors};
 use std::alloc::Global;
-use std::thread;
 use std::thread::Threads;
 
 /// How many slices the keys of one list are scattered in, and the key numbers are read in.
@@ -52,7 +51,7 @@ fn scatter<'a>(alloc: Global, hasher: KeyHash, keys: &[&'a [u8]]) -> Result<Scat
     Ok(Scattered { shards, rows })
 }
 
-/// Scatters the keys of each list to their shards, each list in a thread of its own.
+/// Scatters the keys of each list to their shards, in as many threads as there are processors.
 fn scatter_parallel<'a, R: Threads + Sync>(
     rt: &R,
     alloc: Global,
@@ -63,12 +62,15 @@ fn scatter_parallel<'a, R: Threads + Sync>(
     ensures found { IfOk result
         (λ found. AreScatteredResults (shard_of hasher) lists.now found.items) }
 {
-    let found = thread::map_indices(
+    let mut found = no_results(alloc, lists.len())?;
+    for_each_mut(
         rt,
-        alloc,
-        lists.len(),
-        &|i| scatter(alloc, hasher, lists[i]),
-    )?;
+        &mut found,
+        processors(rt).min(lists.len()),
+        &|i, own: &mut Result<Scattered<'_>, Memory>| {
+            *own = scatter(alloc, hasher, lists[i]);
+        },
+    );
     Ok(found)
 }
 

@@ -96,8 +96,8 @@ impl ShardedMap {
         }
     }
 
-    /// Interns the keys of these lists, as `KeyDictionary::intern_all` describes it, each group of
-    /// shards in a thread of its own, or by the calling thread if none can be started.
+    /// Interns the keys of these lists, as `KeyDictionary::intern_all` describes it, several
+    /// groups of shards side by side, or by the calling thread if no other can be started.
     pub(crate) fn of<R: Threads + Sync, T: Send + Drop, F: FnOnce() -> T + Send + Drop>(
         rt: &R,
         alloc: Global,

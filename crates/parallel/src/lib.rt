@@ -7,19 +7,21 @@
 //!   into the list of their values, in order. It fails where one of them, or the new list, ran out
 //!   of memory.
 //! - `drop_each` drops every item, which no contract can say.
+//! - `processors` is at least one.
 //! - The thresholds (`LEAST_KEYS`, `LEAST_BYTES`, `LEAST_DROPS`) decide how long a call takes,
 //!   never what it returns: below them, starting threads takes longer than the work itself.
 //!
 //! Tests: `log_tests`, through the crates that call it.
 #![tactic(auto)]
 
-ghost use Rattle.std.specs.Prelude.{◌≡◌, Ok, IfOk, map, vec_len};
+ghost use Rattle.std.specs.Prelude.{◌≡◌, ◌≤◌, Ok, IfOk, map, vec_len};
 
 mod each;
 
 pub use each::for_each_mut;
 use lane_words::Memory;
 use std::alloc::Global;
+use std::thread;
 use std::thread::Threads;
 
 /// Fewer keys than these are hashed, placed and appended by the calling thread alone. It is also
@@ -30,10 +32,20 @@ pub const LEAST_KEYS: usize = 4096;
 pub const LEAST_BYTES: usize = 1 << 18;
 
 /// Fewer keys than these are dropped by the calling thread alone.
-pub const LEAST_DROPS: usize = 1 << 18;
+pub const LEAST_DROPS: usize = 1 << 16;
 
 /// In how many threads items are dropped.
 const DROP_THREADS: usize = 4;
+
+/// How many processors there are: one if it can't be told.
+pub fn processors(rt: &impl Threads) -> usize
+    ensures { 1 ≤ result }
+{
+    match thread::available_parallelism(rt) {
+        Ok(count) => count.get(),
+        Err(_) => 1,
+    }
+}
 
 /// The values of these results, in order. Fails with `Memory` if one of the results is an error, or
 /// if the list of values cannot be allocated.

@@ -2,9 +2,8 @@
 
 ghost use Rattle.std.specs.Prelude.{◌≡◌, ◌<◌, [], ℕ, IfOk, length, map, slice_index_or, vec_items, vec_len};
 
-use crate::shares::processors;
 use lane_words::Memory;
-use parallel::{LEAST_KEYS, collected, for_each_mut, no_results};
+use parallel::{LEAST_KEYS, collected, for_each_mut, no_results, processors};
 use std::alloc::Global;
 use std::thread::Threads;
 

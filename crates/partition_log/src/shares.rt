@@ -1,7 +1,8 @@
 //! Logs that are filled in parallel, each thread with the records of some chunks.
 
 ghost use Rattle.std.specs.Fork.{slice_chunk};
-ghost use Rattle.std.specs.Prelude.{◌≡◌, ◌<◌, ◌≤◌, ◌+◌, ◌/◌, ◌%◌, [], ℕ, All, IfOk, OnOk, length, map, min, replicate, slice_index_or, vec_items, vec_len};
+ghost use Rattle.std.specs.Prelude.{◌≡◌, ◌<◌, ◌≤◌, ◌+◌, ◌*◌, ◌/◌, ◌%◌, [], ℕ, All, IfOk, List, OnOk, length, map, min, replicate, slice_index_or, vec_items, vec_len};
+ghost use Rattle.key_counts.specs.Counts.{Entries};
 ghost use Rattle.key_counts.specs.Recorded.{all_records};
 ghost use Rattle.key_counts.specs.Segments.{IsSegment};
 ghost use Rattle.partition_log.specs.Private.Filled.{filled};
@@ -10,9 +11,8 @@ ghost use Rattle.partition_log.specs.Private.Shares.{AreFilled, AreMerged, AreTa
 use crate::taken::TakenRecords;
 use key_counts::{KeyCounts, Segment};
 use lane_words::Memory;
-use parallel::{LEAST_KEYS, collected, for_each_mut, no_results};
+use parallel::{LEAST_KEYS, collected, for_each_mut, no_results, processors};
 use std::alloc::Global;
-use std::thread;
 use std::thread::Threads;
 
 /// What the entries of workers have: a list for each worker, by code.
@@ -129,6 +129,37 @@ fn fill_share(
     Ok(logs)
 }
 
+/// The chunks of share `i`: `size` of them, or what is left.
+fn share_at(chunks: &[Segment], size: usize, i: usize) -> &[Segment]
+    requires { i * size ≤ length chunks.now }
+    ensures value { result.now ≡ slice_chunk chunks.now size i }
+    ensures all { (workers : List Entries)
+        → All (IsSegment workers) chunks.now → All (IsSegment workers) result.now }
+{
+    let others = &chunks[i * size..];
+    &others[..size.min(others.len())]
+}
+
+/// The logs of share `i`.
+fn logs_of_share(
+    alloc: Global,
+    partitions: usize,
+    taken: &TakenRecords<'_>,
+    tables: &Tables,
+    size: usize,
+    i: usize,
+) -> Result<Vec<Vec<u32>>, Memory>
+    requires chunks { All (IsSegment (all_records taken.now.workers.now)) taken.now.chunks.now }
+    requires tables { AreTables partitions taken.now.workers.now tables.now }
+    requires share { i * size ≤ length taken.now.chunks.now }
+    ensures { IfOk result (λ logs. map vec_items logs.items
+        ≡ filled_by partitions taken.now.workers.now tables.now
+        (slice_chunk taken.now.chunks.now size i)) }
+{
+    let chunks = share_at(taken.chunks, size, i);
+    fill_share(alloc, partitions, taken.workers, tables, chunks)
+}
+
 /// The logs of all shares, each filled in a thread of its own: a share has `size` chunks that follow
 /// one another, and the last what is left.
 fn fill_parallel<R: Threads + Sync>(
@@ -149,13 +180,16 @@ fn fill_parallel<R: Threads + Sync>(
         ≡ filled_by partitions taken.now.workers.now tables.now
         (slice_chunk taken.now.chunks.now size i))) }
 {
-    let found = thread::map_chunks(
+    let shares = taken.chunks.len().div_ceil(size);
+    let mut found = no_results(alloc, shares)?;
+    for_each_mut(
         rt,
-        alloc,
-        taken.chunks,
-        size,
-        &|_, chunks| fill_share(alloc, partitions, taken.workers, tables, chunks),
-    )?;
+        &mut found,
+        shares,
+        &|i, own: &mut Result<Vec<Vec<u32>>, Memory>| {
+            *own = logs_of_share(alloc, partitions, taken, tables, size, i);
+        },
+    );
     Ok(found)
 }
 
@@ -250,16 +284,6 @@ fn records_in(chunks: &[Segment]) -> usize {
         records = records.saturating_add(to.saturating_sub(from));
     }
     records
-}
-
-/// How many processors there are: one if it can't be told.
-pub fn processors(rt: &impl Threads) -> usize
-    ensures nonempty { 1 ≤ result }
-{
-    match thread::available_parallelism(rt) {
-        Ok(count) => count.get(),
-        Err(_) => 1,
-    }
 }
 
 /// How many chunks a share has: as many as give each processor one share. Few records are one
