@@ -29,7 +29,7 @@ use std::thread::Threads;
 const LEFT: usize = 1 << 16;
 
 /// How many chunks a window has for each thread. With fewer, threads wait longer for the last one.
-const CHUNKS_PER_THREAD: usize = 12;
+const CHUNKS_PER_THREAD: usize = 24;
 
 /// What was counted of a file so far.
 #[derive(Drop)]

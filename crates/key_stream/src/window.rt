@@ -14,9 +14,6 @@ use std::marker::Model;
 /// How many bytes a buffer has at first: fresh pages take longer than a short file.
 const FIRST_SIZE: usize = 1 << 16;
 
-/// How much a buffer grows from read to read, up to its size.
-const GROWTH: usize = 16;
-
 /// The bytes of a file that were read and not yet taken.
 #[derive(Debug, Drop)]
 pub struct Window {
@@ -122,12 +119,19 @@ impl Window {
         Ok(())
     }
 
-    /// Makes the buffer as long as the next read has it.
+    /// Makes the buffer as long as the next read has it: behind the first a quarter of its size, and
+    /// then twice its length. Into fresh pages a thread reads some two times as many bytes as four
+    /// threads count meanwhile; if it read more, they would wait.
     fn reserve(&mut self) -> Result<(), Memory>
         ensures { self.new ≡ self.old }
     {
         let len = self.buffer.len();
-        let next = len.saturating_mul(GROWTH).max(FIRST_SIZE).min(self.size);
+        let next = if len == 0 {
+            FIRST_SIZE
+        } else {
+            len.saturating_mul(2).max(self.size / 4)
+        };
+        let next = next.min(self.size);
         if len < next {
             self.buffer.resize(next, 0)?;
         }
