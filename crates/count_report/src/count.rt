@@ -17,11 +17,11 @@ ghost use Rattle.ingest.specs.Reports.{AreInRange, IsFaultOf, IsNoWrite, WritesA
 
 use byte_io::{Sink, Source, write_texts};
 use command_line::Options;
-use ingest::{count_file, window_for, workers_for};
+use ingest::{count_file, window_for};
 use key_counts::Merging;
 use key_stream::{Counters, Counting};
 use lane_words::{Memory, Refusal};
-use parallel::{LEAST_BYTES, collected, drop_each, for_each_mut, no_results};
+use parallel::{LEAST_BYTES, collected, drop_each, for_each_mut, no_results, processors};
 use report_rows::count_rows::{count_rows_text, with_total};
 use report_rows::top_rows::top_text;
 use std::alloc::Global;
@@ -60,7 +60,7 @@ fn make_parts<R: Threads + Sync>(
         AreResults (λ i. IsTextOfPart merging.now (from + i)) count found.items) }
 {
     let mut found = no_results(alloc, count)?;
-    let threads = workers_for(rt).min(count);
+    let threads = processors(rt).min(count);
     for_each_mut(
         rt,
         &mut found,
@@ -237,7 +237,7 @@ fn file_report<R: Threads + Sync + RandomSource, S: Source>(
     let Ok(hasher) = RandomState::new(rt) else {
         return Err(Refusal::Memory);
     };
-    let workers = workers_for(rt);
+    let workers = processors(rt);
     let mut counting = Counting::new(alloc, hasher, workers, LEAST_BYTES, false)?;
     match count_file(rt, alloc, file, options, window_for(workers), &mut counting) {
         Ok(None) => Ok(counted_report(rt, alloc, hasher, counting, options)?),

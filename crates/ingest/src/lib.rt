@@ -21,4 +21,4 @@ mod windows;
 
 pub use counted::count_file;
 pub use reading::partition_counts;
-pub use records::{FileRecords, file_records, logs_of, window_for, workers_for};
+pub use records::{FileRecords, file_records, logs_of, window_for};

@@ -16,28 +16,16 @@ use command_line::Options;
 use key_counts::{KeyCounts, Segment};
 use key_stream::{Counters, Counting};
 use lane_words::{Memory, Refusal};
-use parallel::LEAST_BYTES;
+use parallel::{LEAST_BYTES, LEAST_DROPS, drop_each, processors};
 use partition_log::{Logs, TakenRecords};
 use std::alloc::Global;
 use std::hash::RandomState;
 use std::marker::Model;
 use std::random::RandomSource;
-use std::thread;
 use std::thread::Threads;
-
-/// The number of threads that read a file, if the number of processors is unknown.
-const DEFAULT_WORKERS: usize = 4;
 
 /// How many bytes of a file are read at once for each thread.
 const WINDOW: usize = 1 << 20;
-
-/// The number of threads that read a file.
-pub fn workers_for(rt: &impl Threads) -> usize {
-    match thread::available_parallelism(rt) {
-        Ok(count) => count.get(),
-        Err(_) => DEFAULT_WORKERS,
-    }
-}
 
 /// How many bytes of a file so many threads read at once.
 pub fn window_for(workers: usize) -> usize {
@@ -114,6 +102,18 @@ impl FileRecords {
         }
     }
 
+    /// Drops the records, many keys on several threads.
+    pub fn drop_parallel<R: Threads + Sync>(self, rt: &R) {
+        let FileRecords { workers, .. } = self;
+        let mut entries: usize = 0;
+        for w in 0..workers.len() {
+            entries = entries.saturating_add(workers[w].len());
+        }
+        if entries >= LEAST_DROPS {
+            drop_each(rt, workers);
+        }
+    }
+
     /// Why the first record that can't be appended can't, if there is one.
     fn refusal(&self) -> Option<Refusal>
         ensures { result ≡ self.now.refusal }
@@ -145,7 +145,7 @@ pub fn file_records<R: Threads + Sync + RandomSource, S: Source>(
     let Ok(hasher) = RandomState::new(rt) else {
         return Err(Refusal::Memory);
     };
-    let workers = workers_for(rt);
+    let workers = processors(rt);
     let mut counting = Counting::new(alloc, hasher, workers, LEAST_BYTES, true)?;
     match count_file(rt, alloc, file, options, window_for(workers), &mut counting) {
         Ok(refusal) => Ok(FileRecords::of(alloc, counting, options, refusal)?),

@@ -81,7 +81,7 @@ fn report_of_lines<R: Threads + Sync + RandomSource>(
         top: options.top,
         batch: options.batch,
     };
-    text_of_lines(alloc, reporting, &mut world, lines)
+    text_of_lines(rt, alloc, reporting, &mut world, lines)
 }
 
 /// The text of a replay of a script over a file.

@@ -13,7 +13,7 @@ use Rattle.csv.specs.Writing.{row_text}
 use Rattle.report_rows.specs.CountRows.{count_row, counted_row}
 use Rattle.report_rows.specs.Rows.{row_writer}
 use Rattle.partitioner.specs.declared.topic.Topic.{Topic}
-use Rattle.report_rows.specs.ReplayRows.{committed_count_rows, end_of, move_row, move_rows, name_or_empty, offset_row, owner_row, partition_fields, rows_below}
+use Rattle.report_rows.specs.ReplayRows.{end_of, move_row, move_rows, name_or_empty, offset_row, owner_row, partition_fields, rows_below}
 
 -- ---- the topic of a partition
 fields-first : (topics : List Topic) (i p : ℕ) (topic : Topic) → i < length topics → topic ≡ get_or topics i topic
@@ -66,22 +66,8 @@ unfolding move_rows
 moves_end text topics g moves i all h e = sym (append-nil text) ∙ rw (drop_all i moves h) at e
 
 -- ---- counts
-counted-first : (ks : List (List ℕ)) (ns : List ℕ) (i : ℕ) → i < length ks → i < length ns
-    → committed_count_rows (drop i ks) (drop i ns) ≡ counted_row (get_or ks i []) (get_or ns i 0) ++ committed_count_rows (drop (i + 1) ks) (drop (i + 1) ns)
-unfolding committed_count_rows
-counted-first ks ns i h k = rw (add-one, drop-cons ks i [], drop-cons ns i 0) refl
-
 pub counted_is : (key : List ℕ) (n : ℕ) → (n ≡ 0 → ⊥) → counted_row key n ≡ count_row key n
 counted_is key n some = rw (ne_eqb n 0 some) refl
-
-pub counted_step : (text : List ℕ) (ks : List (List ℕ)) (ns : List ℕ) (i : ℕ) (all : List ℕ) → i < length ks → i < length ns
-    → text ++ committed_count_rows (drop i ks) (drop i ns) ≡ all
-    → (text ++ counted_row (get_or ks i []) (get_or ns i 0)) ++ committed_count_rows (drop (i + 1) ks) (drop (i + 1) ns) ≡ all
-counted_step text ks ns i all h k e = append_assoc text _ _ ∙ ap (λ t. text ++ t) (sym (counted-first ks ns i h k)) ∙ e
-
-pub counted_end : (text : List ℕ) (ks : List (List ℕ)) (ns : List ℕ) (i : ℕ) (all : List ℕ) → length ks ≤ i → text ++ committed_count_rows (drop i ks) (drop i ns) ≡ all → text ≡ all
-unfolding committed_count_rows
-counted_end text ks ns i all h e = sym (append-nil text) ∙ rw (drop_all i ks h) at e
 
 -- ---- partitions
 

@@ -10,11 +10,15 @@ use Rattle.report_rows.specs.Rows.{row_writer, total_row}
 unfoldable pub count_row : List ℕ → ℕ → List ℕ
 count_row key n = row_text row_writer (codes "count" ∷ key ∷ decimal n ∷ [])
 
--- the rows of keys with their counts, in the order of the keys
+-- the row of each key with its count, in the order of the keys
+abbrev pub rows_by : (List ℕ → ℕ → List ℕ) → List (List ℕ) → List ℕ → List ℕ
+rows_by row [] counts = []
+rows_by row (key ∷ keys) [] = []
+rows_by row (key ∷ keys) (n ∷ counts) = row key n ++ rows_by row keys counts
+
+-- the rows of keys with their counts
 unfoldable pub count_rows : List (List ℕ) → List ℕ → List ℕ
-count_rows [] counts = []
-count_rows (key ∷ keys) [] = []
-count_rows (key ∷ keys) (n ∷ counts) = count_row key n ++ count_rows keys counts
+count_rows keys counts = rows_by count_row keys counts
 
 -- the row of a key, or nothing if its count is 0
 abbrev pub counted_row : List ℕ → ℕ → List ℕ

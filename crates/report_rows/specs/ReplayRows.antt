@@ -9,7 +9,7 @@ use Rattle.group_machine.specs.State.{GroupState, name_of, owner_of}
 use Rattle.group_machine.specs.Cluster.{ClusterState}
 use Rattle.partitioner.specs.declared.topic.Topic.{Topic}
 use Rattle.report_rows.specs.Rows.{row_writer, total_row}
-use Rattle.report_rows.specs.CountRows.{counted_row, top_rows}
+use Rattle.report_rows.specs.CountRows.{counted_row, rows_by, top_rows}
 
 -- the name of a member, or nothing if there is none
 abbrev pub name_or_empty : GroupState → Option ℕ → List ℕ
@@ -74,10 +74,7 @@ offset_rows topics s =
 
 -- the rows of the keys with a count above 0, in the order of the keys
 unfoldable pub committed_count_rows : List (List ℕ) → List ℕ → List ℕ
-committed_count_rows [] counts = []
-committed_count_rows (key ∷ keys) [] = []
-committed_count_rows (key ∷ keys) (n ∷ counts) =
-    counted_row key n ++ committed_count_rows keys counts
+committed_count_rows keys counts = rows_by counted_row keys counts
 
 -- the rows of all keys with a count above 0, or of those of the top
 abbrev pub listed_committed_rows : Option ℕ → List (List ℕ) → List ℕ → List ℕ

@@ -8,6 +8,7 @@
 //! Tests: `report_tests`.
 #![tactic(auto)]
 
+mod committed_rows;
 pub mod count_rows;
 pub mod replay_rows;
 pub mod rows;

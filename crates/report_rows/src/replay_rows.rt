@@ -1,19 +1,22 @@
 //! The rows of a replay and of a run: moves, refusals, owners, offsets, counts and totals.
 
-ghost use Rattle.std.specs.Prelude.{◌≡◌, ◌<◌, ◌∷◌, [], IfNone, IfSome, OnOk, decimal, drop, length};
+ghost use Rattle.std.specs.Prelude.{◌≡◌, ◌<◌, ◌∷◌, ◌++◌, [], ℕ, IfNone, IfOk, IfSome, List, OnOk, decimal, drop, flat_map, length, vec_items};
 ghost use Rattle.lane_words.specs.Refusal.{code_of};
-ghost use Rattle.report_rows.specs.Rows.{AddsRows};
-ghost use Rattle.report_rows.specs.ReplayRows.{appended_total, closing_rows, committed_count_rows, committed_total, listed_committed_rows, move_row, move_rows, name_or_empty, offset_row, offset_rows, owner_row, owner_rows, partition_fields, refused_row};
+ghost use Rattle.report_rows.specs.Rows.{AddsRows, HasText, total_row};
+ghost use Rattle.report_rows.specs.ReplayRows.{appended_total, closing_rows, committed_total, listed_committed_rows, move_row, move_rows, name_or_empty, offset_row, offset_rows, owner_row, owner_rows, partition_fields, refused_row};
 
-use crate::{rows, top_rows};
+use crate::committed_rows::committed_texts;
+use crate::count_rows::with_total;
+use crate::rows;
+use crate::top_rows::top_text;
 use csv::Writer;
 use group_machine::{Cluster, Move};
 use itoa::Buffer;
-use key_index::KeyDictionary;
 use lane_words::{Memory, Refusal};
 use partition_log::LogRead;
 use partitioner::Topic;
 use std::alloc::Global;
+use std::thread::Threads;
 
 /// The name of a member, or nothing if there is none.
 fn name_or_empty(cluster: &Cluster, member: Option<u32>) -> &[u8]
@@ -176,40 +179,6 @@ fn write_offsets(
     Ok(())
 }
 
-/// Writes the rows of the keys with a count above 0, in the order of the keys.
-fn write_committed_counts(
-    writer: &mut Writer<Vec<u8>>,
-    keys: &KeyDictionary,
-    counts: &[u64],
-) -> Result<(), Memory>
-    requires { length keys.now ≡ length counts.now }
-    ensures { OnOk result (AddsRows writer.old writer.new
-        (committed_count_rows keys.now counts.now)) }
-{
-    for id in 0..keys.count() {
-        top_rows::write_counted(writer, keys.key(id), counts[id as usize])?;
-    }
-    Ok(())
-}
-
-/// Writes the rows of all keys with a count above 0, or of those of the top.
-fn write_listed_counts(
-    writer: &mut Writer<Vec<u8>>,
-    alloc: Global,
-    keys: &KeyDictionary,
-    counts: &[u64],
-    top: Option<u32>,
-) -> Result<(), Memory>
-    requires { length keys.now ≡ length counts.now }
-    ensures { OnOk result (AddsRows writer.old writer.new
-        (listed_committed_rows top keys.now counts.now)) }
-{
-    match top {
-        Some(most) => top_rows::write_top(writer, alloc, keys, counts, most),
-        None => write_committed_counts(writer, keys, counts),
-    }
-}
-
 /// The number of records committed: the sum of the committed offsets.
 pub fn committed_total(cluster: &Cluster) -> u64
     ensures { result ≡ committed_total cluster.now }
@@ -234,22 +203,58 @@ pub fn appended_total(cluster: &Cluster) -> u64
     total
 }
 
-/// Writes the rows after the last line of a script or of a plan. With topics, a partition is named
-/// by its topic and its number there. With `top`, only so many keys with the highest counts have
-/// rows.
-pub fn write_closing(
-    writer: &mut Writer<Vec<u8>>,
+/// The rows of all keys with a count above 0, or of those of the top, and the row of the totals, in
+/// texts to be written one after another.
+fn texts_of_counts<R: Threads + Sync>(
+    rt: &R,
     alloc: Global,
+    top: Option<u32>,
+    cluster: &Cluster,
+) -> Result<Vec<Vec<u8>>, Memory>
+    ensures { let s = cluster.now in IfOk result (λ texts. flat_map vec_items texts.items
+        ≡ listed_committed_rows top s.logs.keys s.store.counts
+        ++ total_row (committed_total s) (appended_total s)) }
+{
+    let (keys, counts) = (cluster.logs().dictionary(), cluster.store().counts());
+    let (committed, appended) = (committed_total(cluster), appended_total(cluster));
+    let Some(most) = top else {
+        let texts = committed_texts(rt, alloc, keys, counts)?;
+        return with_total(alloc, texts, committed, appended);
+    };
+    let mut texts = Vec::new(alloc);
+    texts.push(top_text(alloc, keys, counts, most, committed, appended)?)?;
+    Ok(texts)
+}
+
+/// Adds texts to another, one after another.
+fn add_texts(all: &mut Vec<u8>, texts: Vec<Vec<u8>>) -> Result<(), Memory>
+    ensures { OnOk result (all.new.items ≡ all.old.items ++ flat_map vec_items texts.items) }
+{
+    for text in texts {
+        all.extend_from_slice(text.as_slice())?;
+    }
+    Ok(())
+}
+
+/// What was written, and behind it the rows after the last line of a script or of a plan. With
+/// topics, a partition is named by its topic and its number there. With `top`, only so many keys
+/// with the highest counts have rows. Those of many keys are made in parallel.
+pub fn closing_text<R: Threads + Sync>(
+    rt: &R,
+    alloc: Global,
+    writer: Writer<Vec<u8>>,
     topics: &[Topic],
     top: Option<u32>,
     cluster: &Cluster,
-) -> Result<(), Memory>
-    ensures { OnOk result
-        (AddsRows writer.old writer.new (closing_rows topics.now top cluster.now)) }
+) -> Result<Vec<u8>, Memory>
+    ensures { (text : List ℕ) → HasText writer text → IfOk result (λ all. all.items
+        ≡ text ++ closing_rows topics.now top cluster.now) }
 {
-    write_owners(writer, topics, cluster)?;
-    write_offsets(writer, topics, cluster)?;
-    let counts = cluster.store().counts();
-    write_listed_counts(writer, alloc, cluster.logs().dictionary(), counts, top)?;
-    rows::write_total(writer, committed_total(cluster), appended_total(cluster))
+    let mut writer = writer;
+    write_owners(&mut writer, topics, cluster)?;
+    write_offsets(&mut writer, topics, cluster)?;
+    let mut all = rows::text_of(writer)?;
+    let texts = texts_of_counts(rt, alloc, top, cluster)?;
+    add_texts(&mut all, texts)?;
+    Ok(all)
 }

@@ -8,11 +8,12 @@ use group_machine::{Cluster, Commit, Name};
 use keyed_table::Partial;
 use lane_words::{MOST_PARTITIONS, Memory, Refusal};
 use partitioner::Topic;
-use report_rows::replay_rows::{write_closing, write_moves, write_refused};
+use report_rows::replay_rows::{closing_text, write_moves, write_refused};
 use report_rows::rows;
 use std::alloc::Global;
 use std::process::Abort;
 use std::random::RandomSource;
+use std::thread::Threads;
 
 /// A call on a cluster that must succeed, or the rows that it must have then.
 ///
@@ -43,8 +44,8 @@ fn joins(rt: &impl Abort, cluster: &mut Cluster, name: &[u8], number: u32) -> bo
 }
 
 /// Whether a step succeeds, or the cluster has these rows.
-fn succeeds(
-    rt: &impl Abort,
+fn succeeds<R: Abort + Threads + Sync>(
+    rt: &R,
     alloc: Global,
     topics: &[Topic],
     cluster: &mut Cluster,
@@ -56,15 +57,15 @@ fn succeeds(
         Step::Lose(member) => cluster.lose(*member) == Ok(()),
         Step::Commit(partition, ids) => commit(alloc, cluster, *partition, ids)?,
         Step::Moves(from, wanted) => has_moves(alloc, topics, cluster, *from, wanted)?,
-        Step::Closing(wanted) => has_closing(alloc, topics, None, cluster, wanted)?,
-        Step::Top(most, wanted) => has_closing(alloc, topics, Some(*most), cluster, wanted)?,
+        Step::Closing(wanted) => has_closing(rt, alloc, topics, None, cluster, wanted)?,
+        Step::Top(most, wanted) => has_closing(rt, alloc, topics, Some(*most), cluster, wanted)?,
     };
     Ok(succeeds)
 }
 
 /// The index of the first step that fails.
-fn first_other(
-    rt: &impl Abort,
+fn first_other<R: Abort + Threads + Sync>(
+    rt: &R,
     alloc: Global,
     topics: &[Topic],
     cluster: &mut Cluster,
@@ -97,16 +98,17 @@ fn has_moves(
 }
 
 /// Whether these are the closing rows of a cluster.
-fn has_closing(
+fn has_closing<R: Threads + Sync>(
+    rt: &R,
     alloc: Global,
     topics: &[Topic],
     top: Option<u32>,
     cluster: &Cluster,
     wanted: &[u8],
 ) -> Result<bool, Memory> {
-    let mut writer = rows::new_writer(alloc);
-    write_closing(&mut writer, alloc, topics, top, cluster)?;
-    has_text(writer, wanted)
+    let writer = rows::new_writer(alloc);
+    let text = closing_text(rt, alloc, writer, topics, top, cluster)?;
+    Ok(text.as_slice() == wanted)
 }
 
 /// The commit of member 1 in generation 1 of records of these keys from the start of a log.
@@ -135,7 +137,7 @@ fn commit(
 /// The index of the first step that fails on a new cluster with this many partitions. No other
 /// function owns a cluster: every `?` and assertion is proved together with the drops of what is
 /// owned.
-fn first_other_of<R: Abort + RandomSource>(
+fn first_other_of<R: Abort + RandomSource + Threads + Sync>(
     rt: &R,
     alloc: Global,
     topics: &[Topic],

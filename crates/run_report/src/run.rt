@@ -54,7 +54,9 @@ fn sealed_logs<R: Threads + RandomSource + Sync>(
     ensures counts { IfOk result (λ logs. logs.counts ≡ partition_counts options.now) }
     ensures answer { TakesRecords (partition_counts options.now) (records_in records) result }
 {
-    Ok(logs_of(rt, alloc, &records, options)?.seal())
+    let logs = logs_of(rt, alloc, &records, options)?;
+    records.drop_parallel(rt);
+    Ok(logs.seal())
 }
 
 /// Runs a plan over the logs of these records.
@@ -81,7 +83,8 @@ fn outcome_of<R: Threads + Wait + RandomSource + Sync, G: Gate + Sync>(
 }
 
 /// The text of a run that ended: all moves, and the closing rows. Only an allocation can fail.
-fn text_of_end(
+fn text_of_end<R: Threads + Sync>(
+    rt: &R,
     alloc: Global,
     topics: &[Topic],
     top: Option<u32>,
@@ -94,8 +97,7 @@ fn text_of_end(
 {
     let mut writer = rows::new_writer(alloc);
     replay_rows::write_moves(&mut writer, topics, cluster, 0)?;
-    replay_rows::write_closing(&mut writer, alloc, topics, top, cluster)?;
-    Ok(rows::text_of(writer)?)
+    Ok(replay_rows::closing_text(rt, alloc, writer, topics, top, cluster)?)
 }
 
 /// The text of a run of a plan over these records.
@@ -117,7 +119,7 @@ fn report_of_plan<R: Threads + Wait + RandomSource + Sync, G: Gate + Sync>(
 {
     let outcome = outcome_of(rt, alloc, records, plan, options, gate)?;
     let topics = options.topics.as_slice();
-    text_of_end(alloc, topics, options.top, outcome.cluster())
+    text_of_end(rt, alloc, topics, options.top, outcome.cluster())
 }
 
 /// The text of a run of a script's plan over a file.

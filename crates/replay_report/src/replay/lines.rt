@@ -1,9 +1,9 @@
 //! The rows of the lines of a script.
 
-ghost use Rattle.std.specs.Prelude.{◌≡◌, ◌≢◌, ◌≤◌, ◌⊎◌, ℕ, Ok, Err, IfOk, IfErr, OnOk};
+ghost use Rattle.std.specs.Prelude.{◌≡◌, ◌≢◌, ◌≤◌, Ok, Err, IfOk, IfErr, OnOk};
 ghost use Rattle.lane_words.specs.Answers.{Answers};
 ghost use Rattle.lane_words.specs.declared.Refusal.TheVariants as refusal;
-ghost use Rattle.replay_report.specs.Private.Replay.{WritesLines, line_rows};
+ghost use Rattle.replay_report.specs.Private.Replay.{line_rows};
 ghost use Rattle.ingest.specs.Reports.{IsNoDeviceFault, text_seen};
 ghost use Rattle.report_rows.specs.Rows.{AddsRows};
 ghost use Rattle.replay_report.specs.ReplayReport.{rows_of_answer, text_of_lines};
@@ -16,6 +16,7 @@ use replay_steps::{Unshown, perform_line};
 use report_rows::{replay_rows, rows};
 use script::{Line, Topic};
 use std::alloc::Global;
+use std::thread::Threads;
 use world::World;
 
 /// How a replay is performed and reported.
@@ -67,32 +68,10 @@ fn write_line(
     Ok(())
 }
 
-/// Applies the lines in order and writes their rows, and then the closing rows.
-fn write_lines(
-    writer: &mut Writer<Vec<u8>>,
-    alloc: Global,
-    reporting: Reporting<'_>,
-    world: &mut World,
-    lines: &[Line],
-) -> Result<(), Refusal>
-    requires { 1 ≤ reporting.batch }
-    ensures rows { let how = reporting.entry in OnOk result (WritesLines writer.old writer.new
-        (text_of_lines how.topics.now how.top how.batch world.old lines.now)) }
-    ensures kind { IfErr result IsNoDeviceFault }
-    ensures fault { let how = reporting.entry in IfErr result (λ e. (e ≡ refusal.Memory)
-        ⊎ (text_of_lines how.topics.now how.top how.batch world.old lines.now ≡ Err e)) }
-{
-    let Reporting { topics, top, batch } = reporting;
-    for line in lines {
-        write_line(writer, topics, world, line, batch)?;
-    }
-    replay_rows::write_closing(writer, alloc, topics, top, world.cluster())?;
-    Ok(())
-}
-
 /// The text of a script's lines in a world: their rows, and the closing rows. With topics, a
 /// partition is named by its topic and its number there.
-pub fn text_of_lines(
+pub fn text_of_lines<R: Threads + Sync>(
+    rt: &R,
     alloc: Global,
     reporting: Reporting<'_>,
     world: &mut World,
@@ -103,7 +82,11 @@ pub fn text_of_lines(
         (text_of_lines how.topics.now how.top how.batch world.old lines.now) (text_seen result) }
     ensures kind { IfErr result IsNoDeviceFault }
 {
+    let Reporting { topics, top, batch } = reporting;
     let mut writer = rows::new_writer(alloc);
-    write_lines(&mut writer, alloc, reporting, world, lines)?;
-    Ok(rows::text_of(writer)?)
+    for line in lines {
+        write_line(&mut writer, topics, world, line, batch)?;
+    }
+    let cluster = world.cluster();
+    Ok(replay_rows::closing_text(rt, alloc, writer, topics, top, cluster)?)
 }

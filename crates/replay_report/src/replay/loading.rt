@@ -33,5 +33,6 @@ pub fn world_of<R: Threads + Sync + RandomSource>(
     ensures answer { TakesRecords (partition_counts options.now) (records_in records) result }
 {
     let logs = logs_of(rt, alloc, &records, options)?;
+    records.drop_parallel(rt);
     Ok(World::over(alloc, logs)?)
 }
