@@ -70,9 +70,9 @@ fn find_short(slots: &Slots, entries: &[Entry], hash: u32, key: &KeyWords) -> Op
 {
     let mut index = hash as usize;
     for _ in 0..slots.len() {
-        let (other, code) = slots.get(index)?;
-        if other == hash && is_copy_of(entries, code as usize, key) {
-            return Some(code as usize);
+        let code = slots.get(index, hash)? as usize;
+        if is_copy_of(entries, code, key) {
+            return Some(code);
         }
         index = index.wrapping_add(1);
     }
@@ -86,9 +86,9 @@ fn find_long(slots: &Slots, entries: &[Entry], hash: u32, key: &[u8]) -> Option<
 {
     let mut index = hash as usize;
     for _ in 0..slots.len() {
-        let (other, code) = slots.get(index)?;
-        if other == hash && is_key_of(entries, code as usize, key) {
-            return Some(code as usize);
+        let code = slots.get(index, hash)? as usize;
+        if is_key_of(entries, code, key) {
+            return Some(code);
         }
         index = index.wrapping_add(1);
     }
@@ -245,8 +245,14 @@ impl KeyCounts {
 
     /// The first slot that may lead to a key of this hash.
     #[inline(always)]
-    pub(crate) fn first_slot(&self, hash: u32) -> u64 {
+    pub(crate) fn first_slot(&self, hash: u32) -> u32 {
         self.slots.first(hash)
+    }
+
+    /// The bits of a slot that have a code.
+    #[inline(always)]
+    pub(crate) fn code_bits(&self) -> u32 {
+        self.slots.code_bits()
     }
 
     /// Takes a record of this short key, whose hash is prepared. Most likely the entry of this code

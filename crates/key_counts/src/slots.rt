@@ -1,8 +1,6 @@
 //! The slots of a hash table: which entries may have a key of a hash. Whoever follows one compares
 //! the keys, so nothing is proved of what slots say.
 
-ghost use Rattle.std.specs.Prelude.{◌<◌, ◌-◌, ◌^◌};
-
 use lane_words::Memory;
 use std::alloc::Global;
 
@@ -12,42 +10,51 @@ const FIRST_SLOTS: usize = 1 << 12;
 /// For how many rounds slots must have room if they are not to grow with those of other threads.
 const ROUNDS: usize = 4;
 
-/// The number of values of half a slot.
-const HALF: u64 = 1 << 32;
-
-/// Slots with linear probing. One is 0 if it is empty. Otherwise its high half has 32 bits of a
-/// key's hash, and its low half the code of the key's entry, plus 1.
+/// Slots with linear probing. One is 0 if it is empty. Otherwise its low bits have the code of the
+/// key's entry, plus 1: as many bits as the index of a slot has. Its high bits are those of the key's
+/// hash.
 #[derive(Debug, Drop)]
 pub struct Slots {
     /// The slots, a power of two of them.
-    slots: Vec<u64>,
-    /// How many of them are filled.
-    filled: usize,
+    slots: Vec<u32>,
+    /// The hash of the key of each entry, by its code: slots that grow need more of its bits.
+    hashes: Vec<u32>,
     /// How many entries the thread with most of them had when `prepare` was last called.
     most: usize,
 }
 
 /// The slot of this index, counted round from the first; an empty one if there are no slots.
 #[inline(always)]
-fn slot_at(slots: &[u64], index: usize) -> u64 {
+fn slot_at(slots: &[u32], index: usize) -> u32 {
     match slots.get(index & slots.len().wrapping_sub(1)) {
         Some(slot) => *slot,
         None => 0,
     }
 }
 
-/// The code in a slot, or the largest number if the slot has another hash. This has no branch that a
-/// processor could guess wrong.
+/// The bits of a slot that have a code, of so many slots.
 #[inline(always)]
-pub fn likely_code(slot: u64, hash: u32) -> u32 {
-    let other = (slot / HALF) as u32;
-    let code = ((slot % HALF) as u32).wrapping_sub(1);
-    if other == hash { code } else { u32::MAX }
+fn code_bits(slots: usize) -> u32 {
+    u32::try_from(slots.wrapping_sub(1)).unwrap_or(u32::MAX)
+}
+
+/// The code in a slot, or the largest number if the slot is empty or has another hash. `code_bits`
+/// are the bits that have the code. This has no branch that a processor could guess wrong.
+#[inline(always)]
+pub fn likely_code(slot: u32, hash: u32, code_bits: u32) -> u32 {
+    let code = (slot & code_bits).wrapping_sub(1);
+    if (slot ^ hash) & !code_bits == 0 {
+        code
+    } else {
+        u32::MAX
+    }
 }
 
 /// Fills the first empty slot from its home on.
-fn put(slots: &mut [u64], slot: u64) {
-    let mut index = (slot / HALF) as usize;
+fn put(slots: &mut [u32], hash: u32, code: u32) {
+    let bits = code_bits(slots.len());
+    let slot = (hash & !bits) | (code.wrapping_add(1) & bits);
+    let mut index = hash as usize;
     for _ in 0..slots.len() {
         let here = index & (slots.len() - 1);
         if here < slots.len() && slots[here] == 0 {
@@ -62,8 +69,8 @@ impl Slots {
     /// Empty slots.
     pub fn new(alloc: Global) -> Result<Slots, Memory> {
         Ok(Slots {
-            slots: vec![in alloc; 0u64; FIRST_SLOTS]?,
-            filled: 0,
+            slots: vec![in alloc; 0u32; FIRST_SLOTS]?,
+            hashes: Vec::new(alloc),
             most: 0,
         })
     }
@@ -72,7 +79,7 @@ impl Slots {
     pub fn none(alloc: Global) -> Slots {
         Slots {
             slots: Vec::new(alloc),
-            filled: 0,
+            hashes: Vec::new(alloc),
             most: 0,
         }
     }
@@ -82,21 +89,26 @@ impl Slots {
         self.slots.len()
     }
 
-    /// What the slot of this index says, counted round from the first: nothing if it is empty, else
-    /// its hash and its code.
+    /// The bits of a slot that have a code.
     #[inline(always)]
-    pub fn get(&self, index: usize) -> Option<(u32, u32)> {
+    pub fn code_bits(&self) -> u32 {
+        code_bits(self.slots.len())
+    }
+
+    /// The code in the slot of this index, counted round from the first, as `likely_code` says;
+    /// nothing if the slot is empty.
+    #[inline(always)]
+    pub fn get(&self, index: usize, hash: u32) -> Option<u32> {
         let slot = slot_at(self.slots.as_slice(), index);
-        let low = (slot % HALF) as u32;
-        if low == 0 {
+        if slot == 0 {
             return None;
         }
-        Some(((slot / HALF) as u32, low - 1))
+        Some(likely_code(slot, hash, self.code_bits()))
     }
 
     /// The first slot for this hash.
     #[inline(always)]
-    pub fn first(&self, hash: u32) -> u64 {
+    pub fn first(&self, hash: u32) -> u32 {
         slot_at(self.slots.as_slice(), hash as usize)
     }
 
@@ -117,7 +129,10 @@ impl Slots {
         let came = most.saturating_sub(self.most);
         self.most = most;
         let soon = most.saturating_add(came).saturating_add(came / 8);
-        let later = self.filled.saturating_add(came.saturating_mul(ROUNDS));
+        let later = self
+            .hashes
+            .len()
+            .saturating_add(came.saturating_mul(ROUNDS));
         if soon > self.limit() && later > self.limit() {
             self.grow(alloc)?;
         }
@@ -127,28 +142,25 @@ impl Slots {
     /// Twice as many slots.
     #[inline(never)]
     fn grow(&mut self, alloc: Global) -> Result<(), Memory> {
-        let mut slots = vec![in alloc; 0u64; self.slots.len().saturating_mul(2)]?;
+        let bits = self.code_bits();
+        let mut slots = vec![in alloc; 0u32; self.slots.len().saturating_mul(2)]?;
         for i in 0..self.slots.len() {
-            if self.slots[i] != 0 {
-                put(slots.as_mut_slice(), self.slots[i]);
+            let code = (self.slots[i] & bits).wrapping_sub(1);
+            if let Some(hash) = self.hashes.get(code as usize) {
+                put(slots.as_mut_slice(), *hash, code);
             }
         }
         self.slots = slots;
         Ok(())
     }
 
-    /// Says that the entry of this code has a key of this hash.
-    pub fn insert(&mut self, alloc: Global, hash: u32, code: u32) -> Result<(), Memory>
-        requires { code < 2 ^ 32 - 1 }
-    {
-        if self.filled >= self.limit() {
+    /// Says that the entry of this code, the next one, has a key of this hash.
+    pub fn insert(&mut self, alloc: Global, hash: u32, code: u32) -> Result<(), Memory> {
+        if self.hashes.len() >= self.limit() {
             self.grow(alloc)?;
         }
-        self.filled = self.filled.saturating_add(1);
-        put(
-            self.slots.as_mut_slice(),
-            u64::from(hash) * HALF + u64::from(code) + 1,
-        );
+        put(self.slots.as_mut_slice(), hash, code);
+        self.hashes.push(hash)?;
         Ok(())
     }
 }

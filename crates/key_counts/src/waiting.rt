@@ -40,14 +40,14 @@ impl WaitingKey {
 
     /// The first slot that may lead to the key.
     #[inline(always)]
-    fn first_slot(&self, counts: &KeyCounts) -> u64 {
+    fn first_slot(&self, counts: &KeyCounts) -> u32 {
         counts.first_slot(self.hash)
     }
 
     /// The code of the entry that most likely has the key, from its first slot.
     #[inline(always)]
-    fn likely_code(&self, slot: u64) -> u32 {
-        likely_code(slot, self.hash)
+    fn likely_code(&self, slot: u32, code_bits: u32) -> u32 {
+        likely_code(slot, self.hash, code_bits)
     }
 
     /// Counts a record of the key, which the entry of this code most likely has.
@@ -60,9 +60,9 @@ impl WaitingKey {
 }
 
 /// Reads the first slots that may lead to the first of these keys. They are written where the caller
-/// wants them: an array that is returned is copied, some 256 bytes twice.
+/// wants them: an array that is returned is copied, some 128 bytes twice.
 #[inline(always)]
-fn read_first_slots(counts: &KeyCounts, waiting: &[WaitingKey], slots: &mut [u64; MOST_WAITING]) {
+fn read_first_slots(counts: &KeyCounts, waiting: &[WaitingKey], slots: &mut [u32; MOST_WAITING]) {
     for i in 0..waiting.len().min(MOST_WAITING) {
         slots[i] = waiting[i].first_slot(counts);
     }
@@ -71,12 +71,13 @@ fn read_first_slots(counts: &KeyCounts, waiting: &[WaitingKey], slots: &mut [u64
 /// Reads from these slots the codes of the entries that most likely have the first of these keys.
 #[inline(always)]
 fn read_likely_codes(
+    code_bits: u32,
     waiting: &[WaitingKey],
-    slots: &[u64; MOST_WAITING],
+    slots: &[u32; MOST_WAITING],
     codes: &mut [u32; MOST_WAITING],
 ) {
     for i in 0..waiting.len().min(MOST_WAITING) {
-        codes[i] = waiting[i].likely_code(slots[i]);
+        codes[i] = waiting[i].likely_code(slots[i], code_bits);
     }
 }
 
@@ -91,7 +92,7 @@ pub fn count_all(counts: &mut KeyCounts, waiting: &[WaitingKey]) -> Result<(), M
     let mut slots = [0; MOST_WAITING];
     read_first_slots(counts, waiting, &mut slots);
     let mut codes = [u32::MAX; MOST_WAITING];
-    read_likely_codes(waiting, &slots, &mut codes);
+    read_likely_codes(counts.code_bits(), waiting, &slots, &mut codes);
     for i in 0..waiting.len() {
         waiting[i].count_in(counts, codes[i % MOST_WAITING])?;
     }

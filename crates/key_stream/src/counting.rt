@@ -28,8 +28,8 @@ use std::thread::Threads;
 /// About how many bytes of a window are left to the next one, if more of the file follows.
 const LEFT: usize = 1 << 16;
 
-/// How many chunks a window has for each thread. With fewer, threads wait longer for the last one.
-const CHUNKS_PER_THREAD: usize = 24;
+/// About how long a chunk is. With longer ones threads wait longer for the last one.
+const CHUNK: usize = 40 << 10;
 
 /// What was counted of a file so far.
 #[derive(Drop)]
@@ -119,12 +119,12 @@ fn threads_for(workers: usize, len: usize, least: usize) -> usize
     workers.min(len / least.max(1)).max(1)
 }
 
-/// How many chunks so many threads take.
-fn chunks_for(threads: usize) -> usize {
+/// How many chunks of a text of this length so many threads take.
+fn chunks_for(threads: usize, len: usize) -> usize {
     if threads < 2 {
         return 1;
     }
-    threads.saturating_mul(CHUNKS_PER_THREAD)
+    threads.max(len / CHUNK)
 }
 
 /// A text in so many chunks at most, of one length. If more of the file follows, one piece comes
@@ -267,7 +267,7 @@ impl Counting {
     {
         let behind = usize::from(!at_end);
         let threads = threads_for(self.workers.len(), text.len(), self.least);
-        let chunks = chunks_for(threads);
+        let chunks = chunks_for(threads, text.len());
         let pieces = pieces_in(alloc, text, delimiter, chunks, at_end, plain)?;
         let count = pieces.len().saturating_sub(behind);
         let taken = length_of(&pieces[..count]);
