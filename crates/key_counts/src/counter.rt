@@ -13,6 +13,9 @@ use std::alloc::Global;
 use std::hash::RandomState;
 use std::marker::Model;
 
+/// How many words keep counters apart: a processor fetches lines of 64 bytes in pairs.
+const PADDING: usize = 16;
+
 /// Counts keys. Short ones wait until several can be looked up together: a processor that waits for
 /// the memory of one key goes on with the next.
 #[derive(Drop)]
@@ -23,6 +26,9 @@ pub struct KeyCounter {
     waiting: Vec<WaitingKey>,
     /// The allocator of keys behind the indices of their topics.
     alloc: Global,
+    /// Space that keeps what one thread writes for each key off the cache lines with the hash of the
+    /// next thread's counter, which lies behind.
+    _padding: [u64; PADDING],
 }
 
 impl Model for KeyCounter {
@@ -45,6 +51,7 @@ impl KeyCounter {
             counts,
             waiting: Vec::new(alloc),
             alloc,
+            _padding: [0; PADDING],
         })
     }
 
