@@ -64,7 +64,11 @@ fn count_chunk(counts: &mut Vec<usize>, chunk: &CodedChunk<'_>)
     }
 }
 
-/// How many records of these chunks each partition has.
+/// One chunk in so many is counted to learn how much memory the logs need.
+const SAMPLING: usize = 8;
+
+/// About how many records of these chunks each partition has: a sixteenth more than one chunk in
+/// `SAMPLING` makes likely.
 fn counts_in(
     alloc: Global,
     partitions: usize,
@@ -78,9 +82,23 @@ fn counts_in(
 {
     let mut counts = vec![in alloc; 0_usize; partitions]?;
     for i in 0..chunks.len() {
-        count_chunk(&mut counts, &coded_chunk(workers, tables, chunks[i]));
+        if i % SAMPLING == 0 {
+            count_chunk(&mut counts, &coded_chunk(workers, tables, chunks[i]));
+        }
     }
+    scale(&mut counts, chunks.len());
     Ok(counts)
+}
+
+/// Scales what a sample of so many chunks has to all of them.
+fn scale(counts: &mut Vec<usize>, chunks: usize)
+    ensures { vec_len counts.new ≡ vec_len counts.old }
+{
+    let sampled = chunks.div_ceil(SAMPLING).max(1);
+    for p in 0..counts.len() {
+        let all = counts[p].saturating_mul(chunks) / sampled;
+        counts[p] = all.saturating_add(all / 16);
+    }
 }
 
 /// Empty logs, one for each of these counts, with room for so many records.
