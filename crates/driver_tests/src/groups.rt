@@ -10,6 +10,7 @@ use partition_log::{LogRead, Logs, SealedLogs};
 use std::alloc::Global;
 use std::process::Abort;
 use std::random::RandomSource;
+use std::thread::Threads;
 
 // The calls, without their contracts.
 
@@ -608,12 +609,17 @@ fn three_of_five() -> &'static [Step<'static>] {
 }
 
 /// Whether a cluster over the five records counts three of them, and still has its logs.
-fn counts_three(rt: &impl Abort, alloc: Global, cluster: &mut Cluster, logs: &SealedLogs) -> bool {
-    first_other(rt, alloc, cluster, three_of_five()).is_none() && logs.same(cluster.logs())
+fn counts_three<R: Abort + Threads + Sync>(
+    rt: &R,
+    alloc: Global,
+    cluster: &mut Cluster,
+    logs: &SealedLogs,
+) -> bool {
+    first_other(rt, alloc, cluster, three_of_five()).is_none() && logs.same(rt, cluster.logs())
 }
 
 /// The same, for a new cluster over the five records.
-fn new_counts_three<R: Abort + RandomSource>(
+fn new_counts_three<R: Abort + RandomSource + Threads + Sync>(
     rt: &R,
     alloc: Global,
     logs: &SealedLogs,
@@ -623,7 +629,10 @@ fn new_counts_three<R: Abort + RandomSource>(
 }
 
 /// The same, compared with logs of the same records.
-fn still_has_five<R: Abort + RandomSource>(rt: &R, alloc: Global) -> Result<bool, Refusal> {
+fn still_has_five<R: Abort + RandomSource + Threads + Sync>(
+    rt: &R,
+    alloc: Global,
+) -> Result<bool, Refusal> {
     let logs = five_sealed(rt, alloc)?;
     new_counts_three(rt, alloc, &logs)
 }

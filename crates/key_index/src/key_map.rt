@@ -1,7 +1,7 @@
 //! A map of keys to their numbers, in the order of first appearance.
 
 ghost use Rattle.std.specs.Prelude.{◌≡◌, ◌<◌, ◌≤◌, [], IfOk, IfSome, IfNone, IsOk, OnErr, length, true, false};
-ghost use Rattle.key_index.specs.Keys.{IsIdOf, id_of, is_interned, key_at, with_key};
+ghost use Rattle.key_index.specs.Keys.{IsIdOf, distinct, id_of, is_interned, key_at, with_key};
 ghost use Rattle.key_index.specs.Private.StoredKey.{bytes_of};
 
 use crate::key_hash::KeyHash;
@@ -70,12 +70,15 @@ impl KeyMap {
         })
     }
 
-    /// Reserves capacity for this many more keys.
-    pub fn reserve(&mut self, additional: usize) -> Result<(), Memory>
-        ensures { self.new ≡ self.old }
+    /// The distinct keys of this map, in a map whose keys are hashed by this hasher.
+    pub(crate) fn copy(&self, hasher: KeyHash) -> Result<KeyMap, Memory>
+        ensures { IfOk result (λ copy. copy ≡ distinct self.now) }
     {
-        self.set.reserve(additional)?;
-        Ok(())
+        let mut copy = KeyMap::with_capacity(self.alloc, hasher, self.count() as usize)?;
+        for number in 0..self.count() {
+            copy.intern(self.key(number))?;
+        }
+        Ok(copy)
     }
 
     /// The number of keys.

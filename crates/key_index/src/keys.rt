@@ -9,6 +9,7 @@ use crate::key_map::KeyMap;
 use crate::shards::{Interned, ShardedMap};
 use crate::stored_key::LONGEST_INLINE;
 use lane_words::{MOST_RECORDS, Memory};
+use rayon::prelude::*;
 use std::alloc::Global;
 use std::hash::RandomState;
 use std::marker::Model;
@@ -40,15 +41,20 @@ impl Model for KeyDictionary {
     ghost invariant = { λ k. length k.shards + length k.table ≤ MOST_RECORDS };
 }
 
+/// A hash with seeds that were just drawn. Fails if the random source fails.
+fn fresh_hash(rt: &impl RandomSource) -> Result<KeyHash, Memory> {
+    let Ok(hasher) = RandomState::new(rt) else {
+        return Err(Memory);
+    };
+    Ok(KeyHash::of(hasher))
+}
+
 impl KeyDictionary {
     /// An empty dictionary. Fails if the random source fails.
     pub fn new(rt: &impl RandomSource, alloc: Global) -> Result<KeyDictionary, Memory>
         ensures { IfOk result (λ keys. keys ≡ []) }
     {
-        let Ok(hasher) = RandomState::new(rt) else {
-            return Err(Memory);
-        };
-        let hasher = KeyHash::of(hasher);
+        let hasher = fresh_hash(rt)?;
         Ok(KeyDictionary {
             alloc,
             hasher,
@@ -57,27 +63,19 @@ impl KeyDictionary {
         })
     }
 
-    /// The same keys with the same numbers, and a hash of its own. Fails if memory runs out or the
-    /// random source fails.
-    pub fn copy(&self, rt: &impl RandomSource) -> Result<KeyDictionary, Memory>
+    /// The same keys with the same numbers: many are copied in parallel. Keys that are added get a
+    /// hash of the copy's own. Fails if memory runs out or the random source fails.
+    pub fn copy<R: Threads + RandomSource + Sync>(&self, rt: &R) -> Result<KeyDictionary, Memory>
         requires { IsWithoutRepeats self.now }
         ensures { IfOk result (λ copy. copy ≡ self.now) }
     {
-        let mut copy = KeyDictionary::new(rt, self.alloc)?;
-        copy.add_all(self).and(Ok(copy))
-    }
-
-    /// Adds the keys of another dictionary to an empty one.
-    fn add_all(&mut self, other: &KeyDictionary) -> Result<(), Memory>
-        requires empty { self.old ≡ [] }
-        requires distinct { IsWithoutRepeats other.now }
-        ensures { OnOk result (self.new ≡ other.now) }
-    {
-        self.table.reserve(other.count() as usize)?;
-        for number in 0..other.count() {
-            self.add(other.key(number))?;
-        }
-        Ok(())
+        let hasher = fresh_hash(rt)?;
+        Ok(KeyDictionary {
+            alloc: self.alloc,
+            hasher,
+            shards: self.shards.copy(rt, self.alloc)?,
+            table: self.table.copy(hasher)?,
+        })
     }
 
     /// Interns the keys of these lists: returns the distinct keys in the order of their first
@@ -117,19 +115,19 @@ impl KeyDictionary {
         shards.drop_parallel(rt);
     }
 
-    /// Whether both have the same keys with the same numbers.
-    pub fn same(&self, other: &KeyDictionary) -> bool
+    /// Whether both have the same keys with the same numbers. Many are compared in parallel.
+    pub fn same<R: Threads + Sync>(&self, rt: &R, other: &KeyDictionary) -> bool
         ensures { IsTrue result ↔ (self.now ≡ other.now) }
     {
-        if self.count() != other.count() {
-            return false;
-        }
-        for number in 0..self.count() {
-            if self.key(number) != other.key(number) {
-                return false;
-            }
-        }
-        true
+        self.count() == other.count()
+            && (0..self.count()).into_par_iter().all(
+                rt,
+                |number: u32| -> bool
+                    requires { (number < length self.now) × (number < length other.now) }
+                    ensures { IsTrue result
+                        ↔ (key_at self.entry.now number ≡ key_at other.entry.now number) }
+                { self.key(number) == other.key(number) },
+            )
     }
 
     /// The number of keys.

@@ -1,8 +1,9 @@
 //! A map of keys that were interned in parallel, sharded by hash.
 
 ghost use Rattle.std.specs.Prelude.{◌≡◌, ◌<◌, ◌≤◌, [], IfOk, IfSome, IfNone, IsOk, length, map, slice_index_or, vec_items, vec_len, true, false};
+ghost use Rattle.parallel.specs.Results.{AreResults};
 ghost use Rattle.key_index.specs.Interned.{IsDictionaryOf};
-ghost use Rattle.key_index.specs.Keys.{IsIdOf, distinct, id_of, is_interned, key_at, lent_lists};
+ghost use Rattle.key_index.specs.Keys.{IsIdOf, IsWithoutRepeats, distinct, id_of, is_interned, key_at, lent_lists};
 ghost use Rattle.key_index.specs.Private.Sharded.{AreShards, key_at_location, shard_of};
 
 use crate::interning::intern_keys;
@@ -10,7 +11,9 @@ use crate::key_hash::KeyHash;
 use crate::key_map::KeyMap;
 use crate::stored_key::LONGEST_INLINE;
 use lane_words::{MOST_RECORDS, Memory};
-use parallel::{LEAST_DROPS, drop_each};
+use parallel::{
+    LEAST_DROPS, LEAST_KEYS, collected, drop_each, for_each_mut, no_results, processors,
+};
 use std::alloc::Global;
 use std::marker::Model;
 use std::thread::Threads;
@@ -122,6 +125,30 @@ impl ShardedMap {
         Ok((Interned { keys, ids }, other))
     }
 
+    /// A map of the same keys with the same numbers: the shards are copied in parallel, if it has
+    /// many keys.
+    pub(crate) fn copy<R: Threads + Sync>(
+        &self,
+        rt: &R,
+        alloc: Global,
+    ) -> Result<ShardedMap, Memory>
+        requires { IsWithoutRepeats self.now }
+        ensures { IfOk result (λ copy. copy ≡ self.now) }
+    {
+        let threads = if self.order.len() < LEAST_KEYS {
+            1
+        } else {
+            processors(rt)
+        };
+        let tables = copied_tables(rt, alloc, self.hasher, self.tables.as_slice(), threads)?;
+        Ok(ShardedMap {
+            hasher: self.hasher,
+            tables,
+            ids: copied_ids(alloc, self.ids.as_slice())?,
+            order: Vec::from_slice(alloc, self.order.as_slice())?,
+        })
+    }
+
     /// Drops the map: the shards in parallel, if it has many keys.
     pub(crate) fn drop_parallel<R: Threads + Sync>(self, rt: &R) {
         if self.order.len() < LEAST_DROPS {
@@ -178,4 +205,62 @@ fn find_in_shard(tables: &mut Vec<KeyMap>, shard: usize, key: &[u8]) -> Result<O
     ensures same { tables.new.items ≡ tables.old.items }
 {
     tables[shard].find(key)
+}
+
+/// Copies the distinct keys of each table, in so many threads at most.
+fn copy_each<R: Threads + Sync>(
+    rt: &R,
+    alloc: Global,
+    hasher: KeyHash,
+    tables: &[KeyMap],
+    threads: usize,
+) -> Result<Vec<Result<KeyMap, Memory>>, Memory>
+    ensures len { IfOk result (λ found. vec_len found ≡ length tables.now) }
+    ensures found { IfOk result (λ found. AreResults
+        (λ s copy. copy ≡ distinct (slice_index_or tables.now s []))
+        (length tables.now) found.items) }
+{
+    let mut found = no_results(alloc, tables.len())?;
+    for_each_mut(
+        rt,
+        &mut found,
+        threads,
+        &|s, own: &mut Result<KeyMap, Memory>| {
+            *own = table_copy(tables, s, hasher);
+        },
+    );
+    Ok(found)
+}
+
+/// The distinct keys of each table, copied in so many threads at most.
+fn copied_tables<R: Threads + Sync>(
+    rt: &R,
+    alloc: Global,
+    hasher: KeyHash,
+    tables: &[KeyMap],
+    threads: usize,
+) -> Result<Vec<KeyMap>, Memory>
+    ensures { IfOk result (λ copies. copies.items ≡ map distinct tables.now) }
+{
+    let found = copy_each(rt, alloc, hasher, tables, threads)?;
+    collected(alloc, found)
+}
+
+/// The distinct keys of the table of this index.
+fn table_copy(tables: &[KeyMap], s: usize, hasher: KeyHash) -> Result<KeyMap, Memory>
+    requires { s < length tables.now }
+    ensures { IfOk result (λ copy. copy ≡ distinct (slice_index_or tables.now s [])) }
+{
+    tables[s].copy(hasher)
+}
+
+/// The same lists.
+fn copied_ids(alloc: Global, ids: &[Vec<u32>]) -> Result<Vec<Vec<u32>>, Memory>
+    ensures { IfOk result (λ copy. map vec_items copy.items ≡ map vec_items ids.now) }
+{
+    let mut copy = Vec::with_capacity(alloc, ids.len())?;
+    for s in 0..ids.len() {
+        copy.push(Vec::from_slice(alloc, ids[s].as_slice())?)?;
+    }
+    Ok(copy)
 }

@@ -145,19 +145,19 @@ fn logs_of(
 }
 
 /// Whether sealed logs of these keys in one partition equal these logs.
-fn is_same_sealed(
-    rt: &impl RandomSource,
+fn is_same_sealed<R: Threads + Sync + RandomSource>(
+    rt: &R,
     alloc: Global,
     keys: &[u8],
     logs: &Logs,
 ) -> Result<bool, Refusal> {
     let sealed = logs_of(rt, alloc, 1, keys)?.seal();
-    Ok(sealed.same(logs))
+    Ok(sealed.same(rt, logs))
 }
 
 /// Whether logs of these keys in one partition equal logs of the other keys in this many.
-fn are_same(
-    rt: &impl RandomSource,
+fn are_same<R: Threads + Sync + RandomSource>(
+    rt: &R,
     alloc: Global,
     keys: &[u8],
     partitions: u32,
@@ -246,8 +246,8 @@ fn append_numbers(logs: &mut Logs, records: u32) -> Result<(), Refusal> {
 }
 
 /// Whether logs equal others until those have one more record.
-fn is_same_till_a_record(sealed: &SealedLogs, other: &mut Logs) -> bool {
-    sealed.same(other) && append(other, &[0; 4]).is_ok() && !sealed.same(other)
+fn is_same_till_a_record<R: Threads + Sync>(rt: &R, sealed: &SealedLogs, other: &mut Logs) -> bool {
+    sealed.same(rt, other) && append(other, &[0; 4]).is_ok() && !sealed.same(rt, other)
 }
 
 /// Whether logs equal a copy of them until it has one more record.
@@ -257,7 +257,7 @@ fn are_same_till_a_record<R: Threads + Sync + RandomSource>(
     sealed: &SealedLogs,
 ) -> Result<bool, Refusal> {
     let mut copy = sealed.copy(rt, alloc)?;
-    Ok(is_same_till_a_record(sealed, &mut copy))
+    Ok(is_same_till_a_record(rt, sealed, &mut copy))
 }
 
 #[test]

@@ -5,6 +5,8 @@ use Rattle.std.specs.Prelude.{◌==◌, if◌then◌else◌, All, IfOk, slice_ra
 use Rattle.std.proofs.lemmas.Bool.Decides.{eqb_tells}
 use Rattle.std.proofs.lemmas.List.{append-nil, drop-drop, drop_more, ext_get_or, get_or-map, get_or-replicate, get_or_default, length-map, length-replicate, length-set, same_lists, take-append-drop}
 use Rattle.std.proofs.lemmas.List.Concat.{flat_map-append}
+use Rattle.std.proofs.lemmas.List.FromFn.{get_or-range_with_len, length-range_with_len}
+use Rattle.std.specs.List.{range_with_len}
 use Rattle.std.specs.Global.{Global}
 use Rattle.std.proofs.lemmas.Grind.{div_ceil_times}
 use native.Mathlib.Nat.{suc-mul, zero-mul}
@@ -229,3 +231,11 @@ copied {A} {B} logs found copies is long h = same_lists (map vec_items copies) (
             let in_logs : p < length logs = omega (arith, lt, length-map copies vec_items, many) in
             let own = found-each (λ i copy. copy.items ≡ get_or (map vec_items logs) i []) found copies (length logs) is long h p first in_logs in
             get_or-map vec_items copies p first d (omega (arith, lt, length-map copies vec_items)) ∙ own ∙ get_or_default (map vec_items logs) p [] d (omega (arith, in_logs, length-map logs vec_items))
+
+-- lists of logs that are the same by index
+pub same-by-index : (xs ys : List (List ℕ)) (n : ℕ) → length xs ≡ n → length ys ≡ n → All (λ i. get_or xs i [] ≡ get_or ys i []) (range_with_len 0 n) → xs ≡ ys
+same-by-index xs ys n long long_y h =
+    ext_get_or [] xs ys (long ∙ sym long_y) (λ i lt.
+    let within : i < n = omega (arith, lt, long) in
+    let at : get_or (range_with_len 0 n) i 0 ≡ i = get_or-range_with_len 0 n i 0 within ∙ omega arith in
+    subst (λ j. get_or xs j [] ≡ get_or ys j []) at (h i 0 (omega (arith, within, length-range_with_len 0 n))))

@@ -32,6 +32,7 @@ use key_index::KeyDictionary;
 use lane_words::{LONGEST_KEY, MOST_PARTITIONS, MOST_RECORDS, Memory, Refusal};
 pub use laws::each_record_is_in_one_log;
 use partitioner::Partitions;
+use rayon::prelude::*;
 pub use sealed::SealedLogs;
 use std::alloc::Global;
 use std::marker::Model;
@@ -266,12 +267,12 @@ impl Logs {
     }
 
     /// Whether both logs are equal.
-    fn same(&self, other: &Logs) -> bool
+    fn same<R: Threads + Sync>(&self, rt: &R, other: &Logs) -> bool
         ensures { IsTrue result ↔ (self.now ≡ other.now) }
     {
         self.partitions.same(&other.partitions)
-            && self.keys.same(&other.keys)
-            && same_logs(&self.logs, &other.logs)
+            && self.keys.same(rt, &other.keys)
+            && same_logs(rt, &self.logs, &other.logs)
     }
 
     /// An equal copy, with hash seeds of its own.
@@ -300,11 +301,30 @@ fn empty_logs(alloc: Global, count: usize) -> Result<Vec<Vec<u32>>, Memory>
     Ok(logs)
 }
 
-/// Whether logs have the same key numbers.
-fn same_logs(logs: &[Vec<u32>], others: &[Vec<u32>]) -> bool
+/// Whether logs have the same key numbers. They are compared in parallel.
+fn same_logs<R: Threads + Sync>(rt: &R, logs: &[Vec<u32>], others: &[Vec<u32>]) -> bool
     ensures { IsTrue result ↔ (map vec_items logs.now ≡ map vec_items others.now) }
 {
-    logs == others
+    logs.len() == others.len()
+        && (0..logs.len()).into_par_iter().all(
+            rt,
+            |p: usize| -> bool
+                requires { (p < length logs.now) × (p < length others.now) }
+                ensures { IsTrue result
+                    ↔ (slice_index_or (map vec_items logs.entry.now) p []
+                    ≡ slice_index_or (map vec_items others.entry.now) p []) }
+            { same_log(logs, others, p) },
+        )
+}
+
+/// Whether the logs of this index have the same key numbers.
+fn same_log(logs: &[Vec<u32>], others: &[Vec<u32>], p: usize) -> bool
+    requires within { p < length logs.now }
+    requires within_others { p < length others.now }
+    ensures { IsTrue result ↔ (slice_index_or (map vec_items logs.now) p []
+        ≡ slice_index_or (map vec_items others.now) p []) }
+{
+    logs[p] == others[p]
 }
 
 /// Appends the number of a key, interned if new, to the log of this index. Returns its offset.

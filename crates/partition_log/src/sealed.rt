@@ -62,12 +62,13 @@ impl SealedLogs {
     {
         self.logs.copy(rt, alloc)
     }
+
     /// Whether other logs are equal: over the same number of partitions in each topic, with the
-    /// same keys by the same numbers, and the same key numbers in each log in order. It allocates
-    /// nothing, and takes time in proportion to the keys' bytes and the records.
-    pub fn same(&self, other: &Logs) -> bool
+    /// same keys by the same numbers, and the same key numbers in each log in order. They are
+    /// compared in parallel, in time in proportion to the keys' bytes and the records.
+    pub fn same<R: Threads + Sync>(&self, rt: &R, other: &Logs) -> bool
         ensures { IsTrue result ↔ (self.now ≡ other.now) }
     {
-        self.logs.same(other)
+        self.logs.same(rt, other)
     }
 }

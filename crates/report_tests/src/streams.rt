@@ -242,7 +242,7 @@ fn is_logged_alike<R: Threads + Sync + RandomSource>(
     let appended = logs_by_appends(rt, alloc, file, options);
     let read = logs_by_records(rt, alloc, file, options);
     match (appended, read) {
-        (Ok(appended), Ok(read)) => appended.seal().same(&read),
+        (Ok(appended), Ok(read)) => appended.seal().same(rt, &read),
         (Err(fault), Err(other)) => fault == other,
         _ => false,
     }

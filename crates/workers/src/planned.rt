@@ -21,6 +21,7 @@ use partition_log::{LogRead, Logs, SealedLogs};
 use script::{Change, Plan};
 use std::alloc::Global;
 use std::marker::Model;
+use std::thread::Threads;
 
 /// A cluster and a plan of joins, leaves and losses, of which the first lines are applied.
 ///
@@ -258,22 +259,32 @@ impl Planned {
     }
 
     /// The cluster at the end of the run, if the run finished with these logs and this plan.
-    pub(crate) fn outcome(self, logs: &SealedLogs, plan: &Plan) -> Result<Cluster, Fault>
+    pub(crate) fn outcome<R: Threads + Sync>(
+        self,
+        rt: &R,
+        logs: &SealedLogs,
+        plan: &Plan,
+    ) -> Result<Cluster, Fault>
         ensures value { IfOk result (IsRunOf logs.now plan.now) }
         ensures valid { IfOk result IsValidCluster }
     {
-        let came = self.run_result(logs, plan);
+        let came = self.run_result(rt, logs, plan);
         came.and(Ok(self.cluster))
     }
 
     /// Whether the run finished with these logs and this plan, or why not.
-    fn run_result(&self, logs: &SealedLogs, plan: &Plan) -> Result<(), Fault>
+    fn run_result<R: Threads + Sync>(
+        &self,
+        rt: &R,
+        logs: &SealedLogs,
+        plan: &Plan,
+    ) -> Result<(), Fault>
         ensures { OnOk result (IsRunOf logs.now plan.now self.now.cluster) }
     {
         if let Some(Err(fault)) = self.end {
             return Err(fault);
         }
-        if !self.is_finished() || !self.plan.same(plan) || !logs.same(self.cluster.logs()) {
+        if !self.is_finished() || !self.plan.same(plan) || !logs.same(rt, self.cluster.logs()) {
             return Err(Fault::Differs);
         }
         Ok(())

@@ -115,7 +115,7 @@ pub fn run_cluster<R: Threads + Wait + RandomSource + Sync, G: Gate + Sync>(
         polls: polls_together(batch),
     };
     start_all(rt, &shared, plan.members());
-    match lock.into_inner().outcome(logs, plan) {
+    match lock.into_inner().outcome(rt, logs, plan) {
         Ok(cluster) => Ok(Outcome { cluster }),
         Err(fault) => Err(fault.refusal()),
     }

@@ -7,7 +7,7 @@ use Rattle.workers.proofs.Ended.{run_of}
 use Rattle.workers.proofs.planned.Planned.run_result.Goals as goal
 
 pub returns : goal.returns
-returns c =
+returns g c =
     let done : IsFinished (planned_view c.self.inside) = search rules in
     let plan : c.self.inside.plan ≡ c.args.plan.now = search rules in
     let logs : c.args.logs.now ≡ c.self.inside.cluster.logs = search rules in
