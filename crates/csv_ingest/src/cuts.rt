@@ -97,7 +97,9 @@ pub fn cut_behind(before: &[u8], next: &[u8], delimiter: u8, plain: bool) -> Opt
     if before.len() < MARK {
         return None;
     }
-    if let Some(cut) = synced_cut(next, WINDOW.min(next.len()), delimiter) {
+    // Without double quotes what the bytes before end in is known at once.
+    let seen = if plain { 0 } else { WINDOW.min(next.len()) };
+    if let Some(cut) = synced_cut(next, seen, delimiter) {
         return Some(cut);
     }
     let start = mark_length(before);
