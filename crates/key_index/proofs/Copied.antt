@@ -53,11 +53,6 @@ distinct-same ks without_repeats =
 pub distinct-next : (ks : List Key) (n : ℕ) → n < length ks → with_key (distinct (take n ks)) (key_at ks n) ≡ distinct (take (n + 1) ks)
 distinct-next ks n lt = sym (ap distinct (take_more ks n [] lt) ∙ one-more (take n ks) (key_at ks n))
 
-pub first-without : (ks zs : List Key) → IsWithoutRepeats (ks ++ zs) → IsWithoutRepeats ks
-first-without ks zs h = λ m n ltm ltn same.
-    let long = length-append ks zs in
-    h m n (omega (arith, ltm, long)) (omega (arith, ltn, long)) (get_or_append_left ks zs [] m ltm ∙ same ∙ sym (get_or_append_left ks zs [] n ltn))
-
 pub last-without : (ks zs : List Key) → IsWithoutRepeats (ks ++ zs) → IsWithoutRepeats zs
 last-without ks zs h = λ m n ltm ltn same.
     let long = length-append ks zs in
