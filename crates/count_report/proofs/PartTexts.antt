@@ -1,9 +1,8 @@
 -- The texts of parts, one after another.
-use Rattle.std.proofs.Common.{◌≡◌, ◌∙◌, ◌+◌, ◌-◌, ◌<◌, ◌≤◌, ℕ, zero, suc, List, [], ◌∷◌, ◌++◌, Result, Ok, Vec, Global, length, map, take, get_or, sym, ap, ap₂, arith, subst}
-use Rattle.std.specs.Prelude.{IfOk, flat_map, vec_items}
+use Rattle.std.proofs.Common.{◌≡◌, ◌∙◌, ◌+◌, ◌-◌, ◌<◌, ◌≤◌, ℕ, zero, suc, List, [], ◌∷◌, ◌++◌, Vec, Global, length, map, take, get_or, sym, ap, ap₂, arith, subst}
+use Rattle.std.specs.Prelude.{flat_map, vec_items}
 use Rattle.std.proofs.lemmas.List.{append-nil, get_or-map, length-map, take_all, take_more}
 use Rattle.std.proofs.lemmas.List.Concat.{flat_map-append}
-use Rattle.parallel.specs.Results.{AreResults}
 use Rattle.report_rows.specs.CountRows.{count_rows, rows_between}
 use Rattle.report_rows.proofs.Steps.{rows_all, rows_none, rows_parted}
 use Rattle.key_counts.specs.Merging.{IsDivided, Parted}
@@ -46,22 +45,16 @@ first-texts m from count texts d so within len each (suc n) le =
     (grown ∙ ap₂ (λ a b. a ++ b) (first-texts m from count texts d so within len each n (omega (arith, le))) (each n lt)
     ∙ sym (rows_parted m.keys m.counts start before end (starts-rise m so from n (omega (arith, in_ends))) (so.rise at in_ends) (omega (arith, end-within m so at in_ends, so.len)) (sym so.len)))
 
--- what threads found, where none ran out of memory
-pub found-texts : {E : Type 0} (m : Parted) (from count : ℕ) (found : List (Result (Vec ℕ Global) E)) (texts : List (Vec ℕ Global)) → IsDivided m → from + count ≤ length m.ends → length found ≡ count
-    → AreResults (λ i. IsTextOfPart m (from + i)) count found → found ≡ map Ok texts
+-- the texts of so many parts
+pub all-texts : (m : Parted) (from count : ℕ) (texts : List (Vec ℕ Global)) → IsDivided m → from + count ≤ length m.ends → length texts ≡ count
+    → ((i : ℕ) (d : Vec ℕ Global) → i < count → IsTextOfPart m (from + i) (get_or texts i d))
     → flat_map vec_items texts ≡ rows_between m.keys m.counts (get_or (0 ∷ m.ends) from 0) (get_or (0 ∷ m.ends) (from + count) 0)
-found-texts {E} m from count found [] so within len each is =
-    let none : from + count ≡ from = omega (arith, len, ap length is) in
+all-texts m from count [] so within many each =
+    let none : from + count ≡ from = omega (arith, many) in
     rw none (sym (rows_none m.keys m.counts (get_or (0 ∷ m.ends) from 0)))
-found-texts {E} m from count found (text ∷ texts) so within len each is =
+all-texts m from count (text ∷ texts) so within many each =
     let all = text ∷ texts in
-    let many : length all ≡ count = sym (ap length is ∙ length-map all Ok) ∙ len in
-    ap (flat_map vec_items) (sym (take_all count all (omega (arith, many))))
-    ∙ first-texts m from count all text so within many
-    (λ i lt.
-    let at : get_or found i (Ok text) ≡ Ok (get_or all i text) = ap (λ fs. get_or fs i (Ok text)) is ∙ get_or-map Ok all i text (Ok text) (omega (arith, lt, many)) in
-    subst (λ r. IfOk r (IsTextOfPart m (from + i))) at (each i (Ok text) lt))
-    count (omega arith)
+    ap (flat_map vec_items) (sym (take_all count all (omega (arith, many)))) ∙ first-texts m from count all text so within many (λ i lt. each i text lt) count (omega arith)
 
 -- the texts of some parts, and then those of the parts behind them
 pub both-texts : (m : Parted) (from count : ℕ) (first last : List (Vec ℕ Global)) → IsDivided m → from ≤ count → count ≤ length m.ends

@@ -5,7 +5,6 @@ ghost use Rattle.count_report.specs.CountReport.{report_of_count};
 ghost use Rattle.count_report.specs.Private.Counted.{AreTextsOfParts, IsTextOfPart, ReportsCounted, TellsCounters, skipped};
 ghost use Rattle.report_rows.specs.CountRows.{count_rows, listed_rows, top_rows};
 ghost use Rattle.report_rows.specs.Rows.{total_row};
-ghost use Rattle.parallel.specs.Results.{AreResults};
 ghost use Rattle.byte_io.specs.Devices.{CanStillFail};
 ghost use Rattle.key_counts.specs.Merging.{IsDivided};
 ghost use Rattle.key_index.specs.Keys.{Key};
@@ -21,7 +20,7 @@ use ingest::{count_file, window_for};
 use key_counts::Merging;
 use key_stream::{Counters, Counting};
 use lane_words::{Memory, Refusal};
-use parallel::{LEAST_BYTES, collected, drop_each, for_each_mut, no_results, processors};
+use parallel::{LEAST_BYTES, collect_each, drop_each, processors};
 use report_rows::count_rows::{count_rows_text, with_total};
 use report_rows::top_rows::top_text;
 use std::alloc::Global;
@@ -43,36 +42,9 @@ fn rows_of_part(alloc: Global, merging: &Merging, from: usize, i: usize) -> Resu
     count_rows_text(alloc, &merged.keys, merged.counts.as_slice())
 }
 
-/// Makes the rows of so many parts from one on, which still have their entries, in as many threads
-/// as there are processors. Few entries are one part, whose rows the calling thread makes.
-fn make_parts<R: Threads + Sync>(
-    rt: &R,
-    alloc: Global,
-    merging: &Merging,
-    from: usize,
-    count: usize,
-) -> Result<Vec<Result<Vec<u8>, Memory>>, Memory>
-    requires bound { from + count < 2 ^ 64 }
-    requires within { from + count ≤ length merging.now.ends }
-    requires left { from + count ≤ merging.now.left }
-    ensures len { IfOk result (λ found. vec_len found ≡ count) }
-    ensures found { IfOk result (λ found.
-        AreResults (λ i. IsTextOfPart merging.now (from + i)) count found.items) }
-{
-    let mut found = no_results(alloc, count)?;
-    let threads = processors(rt).min(count);
-    for_each_mut(
-        rt,
-        &mut found,
-        threads,
-        &|i, own: &mut Result<Vec<u8>, Memory>| {
-            *own = rows_of_part(alloc, merging, from, i);
-        },
-    );
-    Ok(found)
-}
-
-/// The rows of so many parts from one on, in texts to be written one after another.
+/// The rows of so many parts from one on, which still have their entries, in texts to be written one
+/// after another. They are made in as many threads as there are processors; few entries are one part,
+/// whose rows one thread makes.
 fn rows_between<R: Threads + Sync>(
     rt: &R,
     alloc: Global,
@@ -86,8 +58,13 @@ fn rows_between<R: Threads + Sync>(
     requires divided { IsDivided merging.now }
     ensures { IfOk result (AreTextsOfParts merging.now from (from + count)) }
 {
-    let found = make_parts(rt, alloc, merging, from, count)?;
-    collected(alloc, found)
+    collect_each(
+        rt,
+        alloc,
+        count,
+        processors(rt),
+        &|i| { rows_of_part(alloc, merging, from, i) },
+    )
 }
 
 /// The rows of the first parts, which are those that still have their entries, in texts to be

@@ -3,13 +3,12 @@
 
 ghost use Rattle.std.specs.Prelude.{◌≡◌, ◌<◌, ◌≤◌, ◌+◌, ◌++◌, ◌∷◌, ◌^◌, [], ℕ, All, IfOk, OnOk, length};
 ghost use Rattle.key_counts.specs.Counts.{total};
-ghost use Rattle.key_counts.specs.Private.Classes.{AreAllMembers, AreMembers, IsClass, IsNoMember, IsOrigin, TakesMember, TakesMembers};
+ghost use Rattle.key_counts.specs.Private.Classes.{AreAllMembers, AreClassesMade, AreMembers, IsClass, IsNoMember, IsOrigin, TakesMember, TakesMembers};
 ghost use Rattle.key_counts.specs.Private.Parts.{IsPartOf};
 ghost use Rattle.key_counts.specs.Private.Totals.{AreAddable, AreAdded, AreTotals, added};
 ghost use Rattle.key_counts.specs.Private.Twins.{HasClassesOf, class_in};
 ghost use Rattle.key_counts.specs.Segments.{counts_of, is_key, keys_behind};
 ghost use Rattle.key_index.specs.Keys.{Key};
-ghost use Rattle.parallel.specs.Results.{AreResults};
 
 use crate::counts::KeyCounts;
 use crate::merging::{Segment, behind};
@@ -17,7 +16,7 @@ use crate::twins::{CLASSES, Twins};
 use crate::walk::Position;
 use key_index::KeyMap;
 use lane_words::{MOST_RECORDS, Memory};
-use parallel::{for_each_mut, no_results};
+use parallel::collect_each;
 use std::alloc::Global;
 use std::hash::RandomState;
 use std::thread::Threads;
@@ -231,23 +230,20 @@ pub fn classes_of<R: Threads + Sync>(
     origin: &Origin<'_>,
     segments: &[Segment],
     threads: usize,
-) -> Result<Vec<Result<Class, Memory>>, Memory>
+) -> Result<Vec<Class>, Memory>
     requires origin { IsOrigin origin.now segments.now }
     requires sums { (x : Key) → total (is_key x)
         (keys_behind origin.now.skip origin.now.workers.now segments.now)
         (counts_of origin.now.workers.now segments.now) < 2 ^ 64 }
-    ensures len { IfOk result (λ found. length found.items ≡ CLASSES) }
-    ensures found { IfOk result (λ found. AreResults (IsClass (class_in origin.now.twins.now)
-        origin.now.skip origin.now.workers.now segments.now) CLASSES found.items) }
+    ensures len { IfOk result (λ classes. length classes.items ≡ CLASSES) }
+    ensures classes { IfOk result (λ classes. AreClassesMade (class_in origin.now.twins.now)
+        origin.now.skip origin.now.workers.now segments.now classes.items) }
 {
-    let mut found = no_results(alloc, CLASSES)?;
-    for_each_mut(
+    collect_each(
         rt,
-        &mut found,
+        alloc,
+        CLASSES,
         threads,
-        &|class, own: &mut Result<Class, Memory>| {
-            *own = class_of(alloc, hasher, origin, segments, class);
-        },
-    );
-    Ok(found)
+        &|class| { class_of(alloc, hasher, origin, segments, class) },
+    )
 }

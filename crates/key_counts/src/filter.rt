@@ -2,12 +2,12 @@
 
 ghost use Rattle.std.specs.Prelude.{◌≡◌, ◌≢◌, ◌≤◌, ◌+◌, ◌++◌, ◌∷◌, ◌%◌, [], IfOk, List, ℕ, min};
 ghost use Rattle.key_counts.specs.Private.Filter.{AreMarked, AreMarkedIn, IsFilterOf, cell_of, cells_in, mark_at, mark_in, part_of};
-ghost use Rattle.key_counts.specs.Private.Results.{AreFound, list_of};
+ghost use Rattle.key_counts.specs.Private.Results.{AreMade, list_of};
 
 use crate::hashes::{Placed, list_in};
 use key_index::KeyHash;
 use lane_words::{MOST_RECORDS, Memory};
-use parallel::{LEAST_KEYS, collected, for_each_mut, no_results};
+use parallel::{LEAST_KEYS, collect_each};
 use std::alloc::Global;
 use std::thread::Threads;
 
@@ -134,27 +134,23 @@ fn marks_of(
     Ok(bytes)
 }
 
-/// Marks the cells of each part, in so many threads at most.
-fn mark_parallel<R: Threads + Sync>(
+/// The marks of the cells of each part, in so many threads at most.
+fn marked<R: Threads + Sync>(
     rt: &R,
     alloc: Global,
     place: &Place,
     workers: &[Vec<Vec<Placed>>],
     threads: usize,
-) -> Result<Vec<Result<Vec<u8>, Memory>>, Memory>
-    ensures { IfOk result (λ found.
-        AreFound PARTS (AreMarkedIn workers.now) found.items) }
+) -> Result<Vec<Vec<u8>>, Memory>
+    ensures { IfOk result (λ parts. AreMade PARTS (AreMarkedIn workers.now) parts.items) }
 {
-    let mut found = no_results(alloc, PARTS)?;
-    for_each_mut(
+    collect_each(
         rt,
-        &mut found,
+        alloc,
+        PARTS,
         threads,
-        &|part, own: &mut Result<Vec<u8>, Memory>| {
-            *own = marks_of(alloc, place, workers, part);
-        },
-    );
-    Ok(found)
+        &|part| { marks_of(alloc, place, workers, part) },
+    )
 }
 
 /// In how many threads work on so many pieces is done. Few entries are not worth a thread.
@@ -188,11 +184,8 @@ impl Filter {
         ensures { IfOk result (IsFilterOf place workers.now) }
     {
         let threads = threads_for(&place, MARKING_THREADS);
-        let found = mark_parallel(rt, alloc, &place, workers, threads)?;
-        Ok(Filter {
-            place,
-            parts: collected(alloc, found)?,
-        })
+        let parts = marked(rt, alloc, &place, workers, threads)?;
+        Ok(Filter { place, parts })
     }
 
     /// The marks of the cells of a part.

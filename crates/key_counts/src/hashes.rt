@@ -1,15 +1,15 @@
 //! The entries of several workers, each in the part of its key's cell. Each key is hashed once.
 
-ghost use Rattle.std.specs.Prelude.{◌≡◌, IfOk, ℕ, length};
+ghost use Rattle.std.specs.Prelude.{◌≡◌, ◌<◌, IfOk, ℕ, length};
 ghost use Rattle.key_counts.specs.Counts.{Entries};
 ghost use Rattle.key_counts.specs.Private.Hashes.{ArePlaced, ArePlacedIn, ArePlacedTo};
-ghost use Rattle.key_counts.specs.Private.Results.{AreFound, list_of};
+ghost use Rattle.key_counts.specs.Private.Results.{list_of};
 
 use crate::counts::KeyCounts;
 use crate::filter::{PARTS, Place, cell_of, part_of};
 use crate::merging::behind;
 use lane_words::Memory;
-use parallel::{collected, for_each_mut, no_results};
+use parallel::collect_each;
 use std::alloc::Global;
 use std::thread::Threads;
 
@@ -59,28 +59,19 @@ fn placed_entries(
     Ok(lists)
 }
 
-/// Places each worker's entries, in so many threads at most.
-fn place_parallel<R: Threads + Sync>(
-    rt: &R,
+/// The entries of the worker of this index, placed.
+fn placed_by(
     alloc: Global,
     place: &Place,
     workers: &[KeyCounts],
     skip: usize,
-    threads: usize,
-) -> Result<Vec<Result<Vec<Vec<Placed>>, Memory>>, Memory>
-    ensures { IfOk result (λ found. AreFound (length workers.now)
-        (ArePlacedIn place.now skip workers.now) found.items) }
+    w: usize,
+) -> Result<Vec<Vec<Placed>>, Memory>
+    requires { w < length workers.now }
+    ensures { IfOk result
+        (λ placed. ArePlacedIn place.now skip workers.now w placed.items) }
 {
-    let mut found = no_results(alloc, workers.len())?;
-    for_each_mut(
-        rt,
-        &mut found,
-        threads,
-        &|w, own: &mut Result<Vec<Vec<Placed>>, Memory>| {
-            *own = placed_entries(alloc, place, &workers[w], skip);
-        },
-    );
-    Ok(found)
+    placed_entries(alloc, place, &workers[w], skip)
 }
 
 /// The entries of each worker, placed by their keys without the first `skip` bytes in so many
@@ -95,8 +86,13 @@ pub fn placed_of<R: Threads + Sync>(
 ) -> Result<Vec<Vec<Vec<Placed>>>, Memory>
     ensures { IfOk result (λ placed. ArePlaced place.now skip workers.now placed.items) }
 {
-    let found = place_parallel(rt, alloc, place, workers, skip, threads)?;
-    collected(alloc, found)
+    collect_each(
+        rt,
+        alloc,
+        workers.len(),
+        threads,
+        &|w| { placed_by(alloc, place, workers, skip, w) },
+    )
 }
 
 /// The entries of one part.

@@ -15,7 +15,7 @@ use crate::twins::{CLASSES, Twins};
 use crate::walk::{Position, Walk};
 use key_index::KeyHash;
 use lane_words::{MOST_RECORDS, Memory};
-use parallel::{LEAST_DROPS, LEAST_KEYS, collected, for_each_mut};
+use parallel::{LEAST_DROPS, LEAST_KEYS, for_each_mut};
 use std::alloc::Global;
 use std::hash::RandomState;
 use std::marker::Model;
@@ -144,8 +144,7 @@ impl Prepared {
             workers: workers.as_slice(),
             skip,
         };
-        let found = classes_of(rt, alloc, hasher, &origin, segments.as_slice(), threads)?;
-        let classes = collected(alloc, found)?;
+        let classes = classes_of(rt, alloc, hasher, &origin, segments.as_slice(), threads)?;
         let whole = Snapshot::of(&workers);
         Ok(Prepared {
             workers,

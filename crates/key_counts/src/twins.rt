@@ -3,7 +3,7 @@
 ghost use Rattle.std.specs.Prelude.{◌≡◌, ◌<◌, ◌≤◌, All, IfOk, ℕ, length};
 ghost use Rattle.key_counts.specs.Partition.{AreAll, lens_of};
 ghost use Rattle.key_counts.specs.Private.Hashes.{AreBelow};
-ghost use Rattle.key_counts.specs.Private.Results.{AreFound, AreMade, list_of};
+ghost use Rattle.key_counts.specs.Private.Results.{AreMade, list_of};
 ghost use Rattle.key_counts.specs.Private.Twins.{AreClassesBy, AreClassesIn, AreWithin, AreWritten, HasClasses, IsOnce, class_at, class_in};
 ghost use Rattle.key_counts.specs.Segments.{IsSegment, keys_behind};
 ghost use Rattle.key_index.specs.Keys.{Key};
@@ -13,7 +13,7 @@ use crate::filter::{Filter, PARTS, Place, mark_at, threads_for};
 use crate::hashes::{Placed, list_in, placed_of};
 use crate::merging::Segment;
 use lane_words::Memory;
-use parallel::{collected, for_each_mut, no_results};
+use parallel::collect_each;
 use std::alloc::Global;
 use std::snapshot::Snapshot;
 use std::thread::Threads;
@@ -93,31 +93,6 @@ fn classes_of_worker(
     classes_of(alloc, filter, placed[w].as_slice(), workers[w].len())
 }
 
-/// Finds the classes of each worker's entries, in so many threads at most.
-fn class_parallel<R: Threads + Sync>(
-    rt: &R,
-    alloc: Global,
-    filter: &Filter,
-    workers: &[KeyCounts],
-    placed: &[Vec<Vec<Placed>>],
-    threads: usize,
-) -> Result<Vec<Result<Vec<u8>, Memory>>, Memory>
-    requires { AreWithin workers.now placed.now }
-    ensures { IfOk result (λ found. AreFound (length workers.now)
-        (AreClassesIn filter.now workers.now placed.now) found.items) }
-{
-    let mut found = no_results(alloc, workers.len())?;
-    for_each_mut(
-        rt,
-        &mut found,
-        threads,
-        &|w, own: &mut Result<Vec<u8>, Memory>| {
-            *own = classes_of_worker(alloc, filter, workers, placed, w);
-        },
-    );
-    Ok(found)
-}
-
 /// The classes of each worker's entries, found in so many threads at most.
 fn classed<R: Threads + Sync>(
     rt: &R,
@@ -131,8 +106,13 @@ fn classed<R: Threads + Sync>(
     ensures { IfOk result (λ lists. AreMade (length workers.now)
         (AreClassesIn filter.now workers.now placed.now) lists.items) }
 {
-    let found = class_parallel(rt, alloc, filter, workers, placed, threads)?;
-    collected(alloc, found)
+    collect_each(
+        rt,
+        alloc,
+        workers.len(),
+        threads,
+        &|w| { classes_of_worker(alloc, filter, workers, placed, w) },
+    )
 }
 
 impl Twins {

@@ -1,10 +1,9 @@
 -- Keys that are copied in the order of their numbers.
-use Rattle.std.proofs.Common.{◌≡◌, ◌∙◌, ◌+◌, ◌<◌, ◌≤◌, ℕ, zero, suc, Bool, true, false, List, [], ◌∷◌, ◌++◌, Result, Ok, length, map, take, get_or, get_or-take, ap, sym, refl, subst, arith, length-append}
-use Rattle.std.specs.Prelude.{◌==◌, All, IfOk}
+use Rattle.std.proofs.Common.{◌≡◌, ◌∙◌, ◌+◌, ◌<◌, ◌≤◌, ℕ, zero, suc, Bool, true, false, List, [], ◌∷◌, ◌++◌, length, map, take, get_or, get_or-take, ap, sym, refl, subst, arith, length-append}
+use Rattle.std.specs.Prelude.{◌==◌, All}
 use Rattle.std.specs.List.{range_with_len}
-use Rattle.std.proofs.lemmas.List.{ext_get_or, get_or-append_right, get_or-map, get_or_append_left, length-map, length-take, map-append, take_all, take_more}
+use Rattle.std.proofs.lemmas.List.{ext_get_or, get_or-append_right, get_or-map, length-map, length-take, map-append, take_all, take_more}
 use Rattle.std.proofs.lemmas.List.FromFn.{get_or-range_with_len, length-range_with_len}
-use Rattle.parallel.specs.Results.{AreResults}
 use Rattle.key_index.specs.Keys.{Key, IsWithoutRepeats, distinct, is_interned, key_at, id_of, with_key}
 use Rattle.key_index.specs.Private.Sharded.{of_shard}
 use Rattle.key_index.proofs.Assigned.{one-more}
@@ -70,22 +69,11 @@ tables-distinct shard keys tables without_repeats h =
     let own = h s within in
     get_or-map distinct tables s [] [] within ∙ ap distinct own ∙ sym (filter-distinct (λ k. shard k == s) keys) ∙ ap (of_shard shard s) (distinct-same keys without_repeats) ∙ sym own)
 
-pub tables-copied : {E : Type 0} (tables copies : List (List Key)) (found : List (Result (List Key) E)) → found ≡ map Ok copies → length found ≡ length tables
-    → AreResults (λ s copy. copy ≡ distinct (get_or tables s [])) (length tables) found → copies ≡ map distinct tables
-tables-copied {E} tables copies found is long h =
-    let many : length copies ≡ length tables = sym (length-map {B = Result (List Key) E} copies Ok) ∙ sym (ap length is) ∙ long in
+pub tables-copied : (tables copies : List (List Key)) → length copies ≡ length tables → ((s : ℕ) (d : List Key) → s < length tables → get_or copies s d ≡ distinct (get_or tables s [])) → copies ≡ map distinct tables
+tables-copied tables copies many each =
     ext_get_or [] copies (map distinct tables) (many ∙ sym (length-map tables distinct)) (λ s lt.
     let within : s < length tables = omega (arith, lt, many) in
-    let own = subst (λ r. IfOk r (λ copy. copy ≡ distinct (get_or tables s []))) (ap (λ xs. get_or xs s (Ok [])) is ∙ get_or-map Ok copies s [] (Ok []) lt) (h s (Ok []) within) in
-    own ∙ sym (get_or-map distinct tables s [] [] within))
-
--- lists with the same keys by number
-pub same-by-number : (ks zs : List Key) (n : ℕ) → length ks ≡ n → length zs ≡ n → All (λ i. key_at ks i ≡ key_at zs i) (range_with_len 0 n) → ks ≡ zs
-same-by-number ks zs n long long_z h =
-    ext_get_or [] ks zs (long ∙ sym long_z) (λ i lt.
-    let within : i < n = omega (arith, lt, long) in
-    let at : get_or (range_with_len 0 n) i 0 ≡ i = get_or-range_with_len 0 n i 0 within ∙ omega arith in
-    subst (λ j. key_at ks j ≡ key_at zs j) at (h i 0 (omega (arith, within, length-range_with_len 0 n))))
+    each s [] within ∙ sym (get_or-map distinct tables s [] [] within))
 
 pub next_shown : {A B : Type 0} (f : A → B) (xs ys : List A) (i : ℕ) (x y : A) → i < length xs → x ≡ get_or xs i x → f y ≡ f x → map f ys ≡ take i (map f xs) → map f (ys ++ y ∷ []) ≡ take (i + 1) (map f xs)
 next_shown f xs ys i x y lt read same done =

@@ -1,18 +1,16 @@
 -- Keys scattered to their shards, and shards interned row by row.
-use Rattle.std.proofs.Common.{◌≡◌, ◌∙◌, ◌+◌, ◌-◌, ◌<◌, ◌≤◌, ℕ, zero, suc, Bool, List, [], ◌∷◌, ◌++◌, Bor, Result, Ok, length, map, take, drop, get_or, replicate, sym, ap, ap₂, refl, subst, arith, inl, inr, append_assoc, length-append, length-drop, length-take-le, get_or-set_same, get_or-set_other}
-use Rattle.std.specs.Prelude.{◌==◌, IfOk, slice_range, slice_set}
+use Rattle.std.proofs.Common.{◌≡◌, ◌∙◌, ◌+◌, ◌-◌, ◌<◌, ◌≤◌, ℕ, zero, suc, Bool, List, [], ◌∷◌, ◌++◌, Bor, length, map, take, drop, get_or, replicate, sym, ap, ap₂, refl, subst, arith, inl, inr, append_assoc, length-append, length-drop, length-take-le, get_or-set_same, get_or-set_other}
+use Rattle.std.specs.Prelude.{◌==◌, slice_range, slice_set}
 use Rattle.std.specs.List.{fold}
 use Rattle.std.proofs.Math.ListN.{length-set}
 use Rattle.std.proofs.lemmas.Bool.{cases_eq}
-use Rattle.std.proofs.lemmas.List.{append-nil, drop-map, drop_more, get_or-map, length-map, length-replicate, map-append, take-append-drop, take-map, take_at, take_more}
+use Rattle.std.proofs.lemmas.List.{append-nil, drop-map, drop_more, length-replicate, map-append, take-append-drop, take-map, take_at, take_more}
 use Rattle.std.proofs.lemmas.List.Concat.{flat_map-append}
 use Rattle.std.proofs.lemmas.List.Elements.{filter-append}
 use Rattle.std.proofs.lemmas.List.Folds.{drop_split}
 use Rattle.std.proofs.lemmas.List.Sums.{fold-append}
 use Rattle.key_index.specs.Keys.{Key, distinct, id_of, lent, lent_lists, with_key}
-use Rattle.lane_words.specs.declared.Memory.{Memory}
-use Rattle.key_index.specs.declared.scattering.Scattered.{Scattered}
-use Rattle.key_index.specs.Private.Sharded.{AreScattered, AreScatteredResults, AreRows, IsScattered, of_shard, start_of, with_keys}
+use Rattle.key_index.specs.Private.Sharded.{AreRows, of_shard, start_of, with_keys}
 use Rattle.key_index.proofs.Firsts.{own, stays}
 use Rattle.key_index.proofs.ShardRecords.{IsInternedUpTo, few-distinct, few-filtered, shard-other, shard-own}
 
@@ -93,14 +91,6 @@ pub row-capacity : (shard : Key → ℕ) (s : ℕ) (keys xs ys zs : List Key) (t
 row-capacity shard s keys xs ys zs table local_ids seam so =
     let p : Key → Bool = λ k. shard k == s in
     omega (arith, ap length so.keys_of, few-distinct (of_shard shard s xs), few-filtered p xs, few-filtered p ys, ap length seam, length-append (xs ++ ys) zs, length-append xs ys)
-
-pub found-scattered : (shard : Key → ℕ) (lists : List (Bor (List (Bor Key)))) (found : List (Result Scattered Memory)) (scattered : List Scattered) → found ≡ map Ok scattered → length found ≡ length lists
-    → AreScatteredResults shard lists found → AreScattered shard lists scattered
-found-scattered shard lists found scattered is as_many each =
-    let long : length scattered ≡ length lists = sym (length-map scattered Ok) ∙ ap length (sym is) ∙ as_many in record {
-      as_many = long;
-      are = λ i d e lt. subst (λ r. IfOk r (IsScattered shard (lent (get_or lists i e).now))) (ap (λ rs. get_or rs i (Ok d)) is ∙ get_or-map Ok scattered i d (Ok d) (omega (arith, lt, long))) (each i (Ok d) e lt);
-    }
 
 pub take-parted : (keys : List Key) (from to : ℕ) → from ≤ to → to ≤ length keys → take to keys ≡ take from keys ++ slice_range keys from to
 take-parted keys from to ordered within =

@@ -1,17 +1,16 @@
 //! Keys interned shard by shard, in parallel.
 
-ghost use Rattle.std.specs.Prelude.{◌≡◌, ◌≤◌, ◌<◌, ◌+◌, ◌++◌, [], IfOk, OnOk, flat_map, length, map, replicate, vec_items, vec_len};
-ghost use Rattle.parallel.specs.Results.{AreResults};
+ghost use Rattle.std.specs.Prelude.{◌≡◌, ◌≤◌, ◌<◌, ◌+◌, ◌++◌, [], IfOk, OnOk, length, map, replicate, vec_items, vec_len};
 ghost use Rattle.key_index.specs.Keys.{distinct, id_of, lent_lists};
-ghost use Rattle.key_index.specs.Private.Sharded.{AreAssignable, AreScattered, AreFrom, AreGlobal, AreLocalIds, AreInternedInGroup, AreOrdered, AreSeenCounts, AreTables, HaveReadableIds, IsAssignment, IsInternedGroup, IsInternedShard, ids_after, is_first, keys_in, local_ids_in, order_after, shard_by, shard_of, with_first, with_keys};
+ghost use Rattle.key_index.specs.Private.Sharded.{AreAssignable, AreScattered, AreFrom, AreGlobal, AreInterned, AreLocalIds, AreOrdered, AreSeenCounts, AreTables, HaveReadableIds, IsAssignment, IsInternedShard, ids_after, is_first, keys_in, local_ids_in, order_after, shard_by, shard_of, with_first, with_keys};
 
 use crate::key_hash::KeyHash;
 use crate::key_map::KeyMap;
 use crate::scattered_key::ScatteredKey;
 use crate::scattering::{SLICES, Scattered, all_shards, records_of, scatter_lists};
-use crate::shards::{GROUPS, KeyLocation, SHARDS, SHARDS_PER_GROUP};
+use crate::shards::{KeyLocation, SHARDS};
 use lane_words::{MOST_RECORDS, Memory};
-use parallel::{LEAST_KEYS, collected, for_each_mut, no_results, processors};
+use parallel::{LEAST_KEYS, collect_each, processors};
 use std::alloc::Global;
 use std::thread;
 use std::thread::Threads;
@@ -130,8 +129,8 @@ fn intern_in_shards<R: Threads + Sync>(
         (lent_lists lists.now) (map vec_items r.local_ids.items)) }
 {
     let shards = all_shards(alloc, hasher, lists, scattered)?;
-    let found = intern_shards(rt, alloc, hasher, lists, scattered, capacity)?;
-    let (tables, local_ids) = tables_of(alloc, hasher, lists, found)?;
+    let interned = intern_shards(rt, alloc, hasher, lists, scattered, capacity)?;
+    let (tables, local_ids) = tables_of(alloc, hasher, lists, interned)?;
     Ok(InternedShards {
         shards,
         tables,
@@ -172,7 +171,7 @@ fn intern_shard(
     hasher: KeyHash,
     lists: &[&[&[u8]]],
     scattered: &[Scattered<'_>],
-    shard: u8,
+    shard: usize,
     capacity: usize,
 ) -> Result<InternedShard, Memory>
     requires bound { length (lent_lists lists.now) ≤ MOST_RECORDS }
@@ -192,7 +191,7 @@ fn intern_rows(
     hasher: KeyHash,
     lists: &[&[&[u8]]],
     scattered: &[Scattered<'_>],
-    shard: u8,
+    shard: usize,
 ) -> Result<(), Memory>
     requires table { interned.old.table ≡ [] }
     requires local_ids { interned.old.local_ids.items ≡ [] }
@@ -203,84 +202,13 @@ fn intern_rows(
         (IsInternedShard (shard_of hasher) (lent_lists lists.now) shard interned.new) }
 {
     for i in 0..scattered.len() {
-        let row = &scattered[i].rows[shard as usize];
+        let row = &scattered[i].rows[shard];
         intern_row(&mut interned.table, &mut interned.local_ids, row.as_slice())?;
     }
     Ok(())
 }
 
-/// Interns the shards of one group, one after another.
-fn intern_group(
-    alloc: Global,
-    hasher: KeyHash,
-    lists: &[&[&[u8]]],
-    scattered: &[Scattered<'_>],
-    group: usize,
-    capacity: usize,
-) -> Result<Vec<Result<InternedShard, Memory>>, Memory>
-    requires bound { length (lent_lists lists.now) ≤ MOST_RECORDS }
-    requires group { group < GROUPS }
-    requires scattered { AreScattered (shard_of hasher) lists.now scattered.now }
-    ensures len { IfOk result (λ found. length found.items ≡ SHARDS_PER_GROUP) }
-    ensures found { IfOk result (λ found.
-        AreInternedInGroup (shard_of hasher) (lent_lists lists.now) group found.items) }
-{
-    let from = group as u8 * SHARDS_PER_GROUP;
-    let mut found = Vec::with_capacity(alloc, SHARDS_PER_GROUP as usize)?;
-    for s in from..from + SHARDS_PER_GROUP {
-        found.push(intern_shard(alloc, hasher, lists, scattered, s, capacity))?;
-    }
-    Ok(found)
-}
-
-/// Interns each group of shards, those of many records in as many threads as there are processors.
-fn intern_groups<R: Threads + Sync>(
-    rt: &R,
-    alloc: Global,
-    hasher: KeyHash,
-    lists: &[&[&[u8]]],
-    scattered: &[Scattered<'_>],
-    capacity: usize,
-) -> Result<Vec<Result<Vec<Result<InternedShard, Memory>>, Memory>>, Memory>
-    requires bound { length (lent_lists lists.now) ≤ MOST_RECORDS }
-    requires scattered { AreScattered (shard_of hasher) lists.now scattered.now }
-    ensures len { IfOk result (λ groups. vec_len groups ≡ GROUPS) }
-    ensures found { IfOk result (λ groups. AreResults
-        (IsInternedGroup (shard_of hasher) (lent_lists lists.now)) GROUPS groups.items) }
-{
-    let threads = if records_of(scattered) < LEAST_KEYS {
-        1
-    } else {
-        processors(rt)
-    };
-    let mut groups = no_results(alloc, GROUPS)?;
-    for_each_mut(
-        rt,
-        &mut groups,
-        threads,
-        &|g, own: &mut Result<Vec<Result<InternedShard, Memory>>, Memory>| {
-            *own = intern_group(alloc, hasher, lists, scattered, g, capacity);
-        },
-    );
-    Ok(groups)
-}
-
-/// The shards of all groups, concatenated.
-fn flattened(
-    alloc: Global,
-    groups: Vec<Vec<Result<InternedShard, Memory>>>,
-) -> Result<Vec<Result<InternedShard, Memory>>, Memory>
-    ensures { IfOk result (λ all. all.items ≡ flat_map vec_items groups.items) }
-{
-    let mut all = Vec::with_capacity(alloc, SHARDS as usize)?;
-    for group in groups {
-        let mut group = group;
-        all.append(&mut group)?;
-    }
-    Ok(all)
-}
-
-/// Interns all shards, group by group.
+/// Interns all shards, those of many records in as many threads as there are processors.
 fn intern_shards<R: Threads + Sync>(
     rt: &R,
     alloc: Global,
@@ -288,17 +216,27 @@ fn intern_shards<R: Threads + Sync>(
     lists: &[&[&[u8]]],
     scattered: &[Scattered<'_>],
     capacity: usize,
-) -> Result<Vec<Result<InternedShard, Memory>>, Memory>
+) -> Result<Vec<InternedShard>, Memory>
     requires bound { length (lent_lists lists.now) ≤ MOST_RECORDS }
     requires scattered { AreScattered (shard_of hasher) lists.now scattered.now }
-    ensures len { IfOk result (λ found. vec_len found ≡ SHARDS) }
-    ensures found { IfOk result (λ found. AreResults
-        (IsInternedShard (shard_of hasher) (lent_lists lists.now)) SHARDS found.items) }
+    ensures len { IfOk result (λ shards. length shards.items ≡ SHARDS) }
+    ensures shards { IfOk result
+        (λ shards. AreInterned (shard_of hasher) (lent_lists lists.now) SHARDS shards.items) }
 {
     // Slightly more than the average shard gets.
     let each = capacity / (SHARDS as usize - 1);
-    let groups = intern_groups(rt, alloc, hasher, lists, scattered, each)?;
-    flattened(alloc, collected(alloc, groups)?)
+    let threads = if records_of(scattered) < LEAST_KEYS {
+        1
+    } else {
+        processors(rt)
+    };
+    collect_each(
+        rt,
+        alloc,
+        SHARDS as usize,
+        threads,
+        &|shard| { intern_shard(alloc, hasher, lists, scattered, shard, each) },
+    )
 }
 
 /// The keys of each shard, and the numbers there of its records.
@@ -306,20 +244,18 @@ fn tables_of(
     alloc: Global,
     hasher: KeyHash,
     lists: &[&[&[u8]]],
-    found: Vec<Result<InternedShard, Memory>>,
+    shards: Vec<InternedShard>,
 ) -> Result<(Vec<KeyMap>, Vec<Vec<u32>>), Memory>
-    requires found { AreResults (IsInternedShard (shard_of hasher) (lent_lists lists.now))
-        (vec_len found) found.items }
+    requires len { length shards.items ≡ SHARDS }
+    requires shards { AreInterned (shard_of hasher) (lent_lists lists.now) SHARDS shards.items }
     ensures tables { IfOk result (λ r.
-        AreTables (shard_of hasher) (vec_len found) (lent_lists lists.now) r.0.items) }
-    ensures local_ids { IfOk result (λ r.
-        AreLocalIds (shard_of hasher) (vec_len found) (lent_lists lists.now)
-        (map vec_items r.1.items)) }
+        AreTables (shard_of hasher) SHARDS (lent_lists lists.now) r.0.items) }
+    ensures local_ids { IfOk result (λ r. AreLocalIds (shard_of hasher) SHARDS
+        (lent_lists lists.now) (map vec_items r.1.items)) }
 {
-    let mut tables = Vec::with_capacity(alloc, found.len())?;
-    let mut local_ids = Vec::with_capacity(alloc, found.len())?;
-    for shard in found {
-        let shard = shard?;
+    let mut tables = Vec::with_capacity(alloc, shards.len())?;
+    let mut local_ids = Vec::with_capacity(alloc, shards.len())?;
+    for shard in shards {
         tables.push(shard.table)?;
         local_ids.push(shard.local_ids)?;
     }

@@ -115,7 +115,7 @@ impl KeyDictionary {
         shards.drop_parallel(rt);
     }
 
-    /// Whether both have the same keys with the same numbers. Many are compared in parallel.
+    /// Whether both have the same keys with the same numbers, which several threads compare.
     pub fn same<R: Threads + Sync>(&self, rt: &R, other: &KeyDictionary) -> bool
         ensures { IsTrue result ↔ (self.now ≡ other.now) }
     {

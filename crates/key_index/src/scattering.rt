@@ -1,14 +1,14 @@
 //! Keys scattered to their shards, several lists side by side.
 
-ghost use Rattle.std.specs.Prelude.{◌≡◌, ◌≤◌, ◌+◌, [], IfOk, length, map, replicate, vec_items, vec_len};
+ghost use Rattle.std.specs.Prelude.{◌≡◌, ◌≤◌, ◌+◌, [], IfOk, length, map, replicate, vec_items, ◌<◌, slice_index_or};
 ghost use Rattle.key_index.specs.Keys.{lent, lent_lists};
-ghost use Rattle.key_index.specs.Private.Sharded.{AreScattered, AreScatteredResults, IsScattered, shard_of, start_of};
+ghost use Rattle.key_index.specs.Private.Sharded.{AreScattered, IsScattered, shard_of, start_of};
 
 use crate::key_hash::KeyHash;
 use crate::scattered_key::ScatteredKey;
 use crate::shards::{SHARDS, shard_of};
 use lane_words::{MOST_RECORDS, Memory};
-use parallel::{LEAST_KEYS, collected, for_each_mut, no_results, processors};
+use parallel::{LEAST_KEYS, collect_each, processors};
 use std::alloc::Global;
 use std::thread::Threads;
 
@@ -51,30 +51,22 @@ fn scatter<'a>(alloc: Global, hasher: KeyHash, keys: &[&'a [u8]]) -> Result<Scat
     Ok(Scattered { shards, rows })
 }
 
-/// Scatters the keys of each list to their shards, in as many threads as there are processors.
-fn scatter_parallel<'a, R: Threads + Sync>(
-    rt: &R,
+/// Scatters the keys of the list of this index to their shards.
+fn scatter_list<'a>(
     alloc: Global,
     hasher: KeyHash,
-    lists: &'a [&'a [&'a [u8]]],
-) -> Result<Vec<Result<Scattered<'a>, Memory>>, Memory>
-    ensures len { IfOk result (λ found. vec_len found ≡ length lists.now) }
-    ensures found { IfOk result
-        (λ found. AreScatteredResults (shard_of hasher) lists.now found.items) }
+    lists: &[&'a [&'a [u8]]],
+    i: usize,
+) -> Result<Scattered<'a>, Memory>
+    requires { i < length lists.now }
+    ensures { IfOk result (λ scattered. (e : _)
+        → IsScattered (shard_of hasher) (lent (slice_index_or lists.now i e).now) scattered) }
 {
-    let mut found = no_results(alloc, lists.len())?;
-    for_each_mut(
-        rt,
-        &mut found,
-        processors(rt).min(lists.len()),
-        &|i, own: &mut Result<Scattered<'_>, Memory>| {
-            *own = scatter(alloc, hasher, lists[i]);
-        },
-    );
-    Ok(found)
+    scatter(alloc, hasher, lists[i])
 }
 
-/// Scatters the keys of each list to their shards. Fails only if memory runs out.
+/// Scatters the keys of each list to their shards, in as many threads as there are processors. Fails
+/// only if memory runs out.
 pub fn scatter_lists<'a, R: Threads + Sync>(
     rt: &R,
     alloc: Global,
@@ -83,8 +75,13 @@ pub fn scatter_lists<'a, R: Threads + Sync>(
 ) -> Result<Vec<Scattered<'a>>, Memory>
     ensures { IfOk result (λ scattered. AreScattered (shard_of hasher) lists.now scattered.items) }
 {
-    let found = scatter_parallel(rt, alloc, hasher, lists)?;
-    collected(alloc, found)
+    collect_each(
+        rt,
+        alloc,
+        lists.len(),
+        processors(rt),
+        &|i| { scatter_list(alloc, hasher, lists, i) },
+    )
 }
 
 /// The shards of the keys of all lists, concatenated.

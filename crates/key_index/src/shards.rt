@@ -1,7 +1,6 @@
 //! A map of keys that were interned in parallel, sharded by hash.
 
 ghost use Rattle.std.specs.Prelude.{◌≡◌, ◌<◌, ◌≤◌, [], IfOk, IfSome, IfNone, IsOk, length, map, slice_index_or, vec_items, vec_len, true, false};
-ghost use Rattle.parallel.specs.Results.{AreResults};
 ghost use Rattle.key_index.specs.Interned.{IsDictionaryOf};
 ghost use Rattle.key_index.specs.Keys.{IsIdOf, IsWithoutRepeats, distinct, id_of, is_interned, key_at, lent_lists};
 ghost use Rattle.key_index.specs.Private.Sharded.{AreShards, key_at_location, shard_of};
@@ -11,23 +10,14 @@ use crate::key_hash::KeyHash;
 use crate::key_map::KeyMap;
 use crate::stored_key::LONGEST_INLINE;
 use lane_words::{MOST_RECORDS, Memory};
-use parallel::{
-    LEAST_DROPS, LEAST_KEYS, collected, drop_each, for_each_mut, no_results, processors,
-};
+use parallel::{LEAST_DROPS, LEAST_KEYS, collect_each, copy_lists, drop_each, processors};
 use std::alloc::Global;
 use std::marker::Model;
 use std::thread::Threads;
 
-/// In how many groups the shards are interned in parallel.
-pub const GROUPS: usize = 8;
-
-/// How many shards of a group one thread interns, one after another. If it began them all at once,
-/// their tables would evict one another from the caches.
-pub const SHARDS_PER_GROUP: u8 = 5;
-
 /// How many shards there are. With a few million distinct keys the table of one shard almost fits a
 /// processor's own cache.
-pub const SHARDS: u8 = GROUPS as u8 * SHARDS_PER_GROUP;
+pub const SHARDS: u8 = 40;
 
 /// The shard of a key, from its keyed hash: whoever chooses the keys cannot choose their shards.
 ///
@@ -100,7 +90,7 @@ impl ShardedMap {
     }
 
     /// Interns the keys of these lists, as `KeyDictionary::intern_all` describes it, several
-    /// groups of shards side by side, or by the calling thread if no other can be started.
+    /// shards side by side, or by the calling thread if no other can be started.
     pub(crate) fn of<R: Threads + Sync, T: Send + Drop, F: FnOnce() -> T + Send + Drop>(
         rt: &R,
         alloc: Global,
@@ -144,7 +134,7 @@ impl ShardedMap {
         Ok(ShardedMap {
             hasher: self.hasher,
             tables,
-            ids: copied_ids(alloc, self.ids.as_slice())?,
+            ids: copy_lists(rt, alloc, self.ids.as_slice())?,
             order: Vec::from_slice(alloc, self.order.as_slice())?,
         })
     }
@@ -207,31 +197,6 @@ fn find_in_shard(tables: &mut Vec<KeyMap>, shard: usize, key: &[u8]) -> Result<O
     tables[shard].find(key)
 }
 
-/// Copies the distinct keys of each table, in so many threads at most.
-fn copy_each<R: Threads + Sync>(
-    rt: &R,
-    alloc: Global,
-    hasher: KeyHash,
-    tables: &[KeyMap],
-    threads: usize,
-) -> Result<Vec<Result<KeyMap, Memory>>, Memory>
-    ensures len { IfOk result (λ found. vec_len found ≡ length tables.now) }
-    ensures found { IfOk result (λ found. AreResults
-        (λ s copy. copy ≡ distinct (slice_index_or tables.now s []))
-        (length tables.now) found.items) }
-{
-    let mut found = no_results(alloc, tables.len())?;
-    for_each_mut(
-        rt,
-        &mut found,
-        threads,
-        &|s, own: &mut Result<KeyMap, Memory>| {
-            *own = table_copy(tables, s, hasher);
-        },
-    );
-    Ok(found)
-}
-
 /// The distinct keys of each table, copied in so many threads at most.
 fn copied_tables<R: Threads + Sync>(
     rt: &R,
@@ -242,8 +207,13 @@ fn copied_tables<R: Threads + Sync>(
 ) -> Result<Vec<KeyMap>, Memory>
     ensures { IfOk result (λ copies. copies.items ≡ map distinct tables.now) }
 {
-    let found = copy_each(rt, alloc, hasher, tables, threads)?;
-    collected(alloc, found)
+    collect_each(
+        rt,
+        alloc,
+        tables.len(),
+        threads,
+        &|s| table_copy(tables, s, hasher),
+    )
 }
 
 /// The distinct keys of the table of this index.
@@ -252,15 +222,4 @@ fn table_copy(tables: &[KeyMap], s: usize, hasher: KeyHash) -> Result<KeyMap, Me
     ensures { IfOk result (λ copy. copy ≡ distinct (slice_index_or tables.now s [])) }
 {
     tables[s].copy(hasher)
-}
-
-/// The same lists.
-fn copied_ids(alloc: Global, ids: &[Vec<u32>]) -> Result<Vec<Vec<u32>>, Memory>
-    ensures { IfOk result (λ copy. map vec_items copy.items ≡ map vec_items ids.now) }
-{
-    let mut copy = Vec::with_capacity(alloc, ids.len())?;
-    for s in 0..ids.len() {
-        copy.push(Vec::from_slice(alloc, ids[s].as_slice())?)?;
-    }
-    Ok(copy)
 }

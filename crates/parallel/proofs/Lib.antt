@@ -1,2 +1,4 @@
+pub mod Copies
 pub mod Iterated
+pub mod Placed
 pub mod Slices

@@ -1,2 +1,2 @@
 pub mod Private
-pub mod Results
+pub mod Values

@@ -3,9 +3,9 @@
 //!
 //! It promises:
 //! - `for_each_mut` calls a function with each of several items, once.
-//! - `no_results` has a place for the result of each task, and `collected` turns a list of results
-//!   into the list of their values, in order. It fails where one of them, or the new list, ran out
-//!   of memory.
+//! - `collect_each` has the value of a function for each of several indices, in order. It fails where
+//!   a call, or the list, ran out of memory.
+//! - `copy_lists` has the numbers of each of several lists.
 //! - `drop_each` drops every item, which no contract can say.
 //! - `processors` is at least one.
 //! - The thresholds (`LEAST_KEYS`, `LEAST_BYTES`, `LEAST_DROPS`) decide how long a call takes,
@@ -14,12 +14,16 @@
 //! Tests: `log_tests`, through the crates that call it.
 #![tactic(auto)]
 
-ghost use Rattle.std.specs.Prelude.{◌≡◌, ◌≤◌, Ok, IfOk, map, vec_len};
+ghost use Rattle.std.specs.Prelude.{◌≤◌};
 
+mod collect;
 mod each;
+mod lists;
 
+pub use collect::collect_each;
 pub use each::for_each_mut;
 use lane_words::Memory;
+pub use lists::copy_lists;
 use std::alloc::Global;
 use std::thread;
 use std::thread::Threads;
@@ -45,29 +49,6 @@ pub fn processors(rt: &impl Threads) -> usize
         Ok(count) => count.get(),
         Err(_) => 1,
     }
-}
-
-/// The values of these results, in order. Fails with `Memory` if one of the results is an error, or
-/// if the list of values cannot be allocated.
-pub fn collected<T: Drop>(alloc: Global, results: Vec<Result<T, Memory>>) -> Result<Vec<T>, Memory>
-    ensures { IfOk result (λ values. results.items ≡ map Ok values.items) }
-{
-    let mut values = Vec::with_capacity(alloc, results.len())?;
-    for one in results {
-        values.push(one?)?;
-    }
-    Ok(values)
-}
-
-/// A place for the result of each of so many tasks, none of which is there yet.
-pub fn no_results<T: Drop>(alloc: Global, count: usize) -> Result<Vec<Result<T, Memory>>, Memory>
-    ensures { IfOk result (λ found. vec_len found ≡ count) }
-{
-    let mut found = Vec::with_capacity(alloc, count)?;
-    for _task in 0..count {
-        found.push(Err(Memory))?;
-    }
-    Ok(found)
 }
 
 /// Items that can be dropped one by one.

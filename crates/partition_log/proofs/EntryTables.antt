@@ -1,5 +1,5 @@
 -- What entries have, and what records have by the codes of their entries.
-use Rattle.std.proofs.Common.{◌≡◌, ◌∙◌, ◌-◌, ◌<◌, ℕ, zero, suc, Bool, true, false, Bor, List, [], ◌∷◌, ◌++◌, Vec, length, map, take, drop, get_or, replicate, sym, ap, ap₂, refl, subst, arith}
+use Rattle.std.proofs.Common.{◌≡◌, ◌∙◌, ◌-◌, ◌<◌, ℕ, zero, suc, Bool, true, false, Bor, List, [], ◌∷◌, ◌++◌, Vec, length, map, take, vec_items, drop, get_or, replicate, sym, ap, ap₂, refl, subst, arith}
 use Rattle.std.specs.Prelude.{◌==◌, All, flat_map, if◌then◌else◌, slice_range}
 use Rattle.std.specs.Global.{Global}
 use Rattle.std.specs.List.{fold, sum, zip}
@@ -51,13 +51,18 @@ own-values f w workers (s ∷ more) parts =
     ∙ ap (λ ys. (if s.worker == w then map f here else []) ++ ys) (own-values f w workers more (All-tail (IsSegment workers) s more parts))
     ∙ own-first (s.worker == w) f workers s (segments_of w more)
 
+table-read : (tables : List (Vec ℕ Global)) (w : ℕ) (own : List ℕ) → w < length tables → ((d : Vec ℕ Global) → (get_or tables w d).items ≡ own) → table_of tables w ≡ own
+table-read [] w own lt is = absurd (omega (arith, lt))
+table-read (table ∷ tables) w own lt is = get_or-map vec_items (table ∷ tables) w table [] lt ∙ is table
+
 pub tables-of : (f : Key → ℕ) (taken : TakenRecords) (all : List ℕ) (tables : List (Vec ℕ Global)) → AreTaken taken → length tables ≡ length taken.workers.now
-    → ((w : ℕ) → w < length taken.workers.now → table_of tables w ≡ own_values w taken.segments.now all) → all ≡ map f (entry_keys taken)
+    → ((w : ℕ) (d : Vec ℕ Global) → w < length taken.workers.now → (get_or tables w d).items ≡ own_values w taken.segments.now all) → all ≡ map f (entry_keys taken)
     → AreTablesOf f taken.workers.now tables
 tables-of f taken all tables so many each is = record {
   many = many;
   each = λ w lt.
-      each w lt ∙ ap (own_values w taken.segments.now) is ∙ own-values f w taken.workers.now taken.segments.now so.parts.parts
+      table-read tables w (own_values w taken.segments.now all) (omega (arith, lt, many)) (λ d. each w d lt)
+      ∙ ap (own_values w taken.segments.now) is ∙ own-values f w taken.workers.now taken.segments.now so.parts.parts
       ∙ ap (map f) (so.parts.own w lt);
 }
 

@@ -1,16 +1,13 @@
 -- Logs that are filled share by share, and records that are read by codes.
-use Rattle.std.proofs.Common.{◌≡◌, ◌∙◌, ◌+◌, ◌*◌, ◌/◌, ◌%◌, ◌<◌, ◌≤◌, ℕ, suc, Bool, true, false, List, [], ◌∷◌, ◌++◌, Result, Ok, Vec, length, map, min, take, drop, get_or, replicate, sym, ap, ap₂, refl, subst, arith, inl, inr, append_assoc, length-append, length-drop, get_or-set_same, get_or-set_other, vec_items}
+use Rattle.std.proofs.Common.{◌≡◌, ◌∙◌, ◌+◌, ◌*◌, ◌/◌, ◌%◌, ◌<◌, ◌≤◌, ℕ, suc, Bool, true, false, List, [], ◌∷◌, ◌++◌, Vec, length, map, min, take, drop, get_or, replicate, sym, ap, ap₂, refl, subst, arith, inl, inr, append_assoc, length-append, length-drop, get_or-set_same, get_or-set_other, vec_items}
 use Rattle.std.specs.Fork.{slice_chunk}
-use Rattle.std.specs.Prelude.{◌==◌, if◌then◌else◌, All, IfOk, slice_range, slice_set}
+use Rattle.std.specs.Prelude.{◌==◌, if◌then◌else◌, All, slice_range, slice_set}
 use Rattle.std.proofs.lemmas.Bool.Decides.{eqb_tells}
-use Rattle.std.proofs.lemmas.List.{append-nil, drop-drop, drop_more, ext_get_or, get_or-map, get_or-replicate, get_or_default, length-map, length-replicate, length-set, same_lists, take-append-drop}
+use Rattle.std.proofs.lemmas.List.{append-nil, drop-drop, drop_more, ext_get_or, get_or-map, get_or-replicate, length-map, length-replicate, length-set, take-append-drop}
 use Rattle.std.proofs.lemmas.List.Concat.{flat_map-append}
-use Rattle.std.proofs.lemmas.List.FromFn.{get_or-range_with_len, length-range_with_len}
-use Rattle.std.specs.List.{range_with_len}
 use Rattle.std.specs.Global.{Global}
 use Rattle.std.proofs.lemmas.Grind.{div_ceil_times}
 use native.Mathlib.Nat.{suc-mul, zero-mul}
-use Rattle.lane_words.specs.declared.Memory.{Memory}
 use Rattle.key_counts.specs.Counts.{Entries}
 use Rattle.key_counts.specs.Segments.{entries_of}
 use Rattle.key_counts.specs.declared.merging.Segment.{Segment}
@@ -155,87 +152,41 @@ parts-long partitions workers tables size chunks parts so = λ i d lt.
     sym (length-map (get_or parts i d).items vec_items) ∙ ap length (sym (get_or-map (λ part. map vec_items part.items) parts i d [] lt) ∙ so.each i within)
     ∙ filled_by-long partitions workers tables (slice_chunk chunks size i)
 
-found-each : {T : Type 0} (P : ℕ → T → Type 0) (found : List (Result T Memory)) (all : List T) (n : ℕ) → found ≡ map Ok all → length found ≡ n
-    → ((i : ℕ) (d : Result T Memory) → i < n → IfOk (get_or found i d) (P i)) → (i : ℕ) (d : T) → i < n → P i (get_or all i d)
-found-each P found all n is long h i d lt =
-    let many : length all ≡ n = sym (ap length is ∙ length-map all Ok) ∙ long in
-    let own = h i (Ok d) lt in
-    let at : get_or found i (Ok d) ≡ Ok (get_or all i d) = ap (λ fs. get_or fs i (Ok d)) is ∙ get_or-map Ok all i d (Ok d) (omega (arith, lt, many)) in
-    rw at at own
-
-found-long : {T : Type 0} (found : List (Result T Memory)) (all : List T) (n : ℕ) → found ≡ map Ok all → length found ≡ n → length all ≡ n
-found-long found all n is long = sym (ap length is ∙ length-map all Ok) ∙ long
-
 -- ---- what threads found
-pub filled-parts : {A Z : Type 0} (partitions : ℕ) (workers : List Entries) (tables : Tables) (size : ℕ) (chunks : List Segment) (found : List (Result (Vec (Vec ℕ Z) A) Memory)) (parts : List (Vec (Vec ℕ Z) A)) → found ≡ map Ok parts
-    → 0 < size → length found ≡ length chunks / size + min 1 (length chunks % size)
-    → ((i : ℕ) (d : Result (Vec (Vec ℕ Z) A) Memory) → i < length found → IfOk (get_or found i d) (λ part. map vec_items part.items ≡ filled_by partitions workers tables (slice_chunk chunks size i)))
+pub filled-parts : {A Z : Type 0} (partitions : ℕ) (workers : List Entries) (tables : Tables) (size : ℕ) (chunks : List Segment) (parts : List (Vec (Vec ℕ Z) A)) → 0 < size
+    → length parts ≡ length chunks / size + min 1 (length chunks % size)
+    → ((i : ℕ) (d : Vec (Vec ℕ Z) A) → i < length parts → map vec_items (get_or parts i d).items ≡ filled_by partitions workers tables (slice_chunk chunks size i))
     → AreFilled partitions workers tables size chunks (map (λ (part : Vec (Vec ℕ Z) A). map vec_items part.items) parts)
-filled-parts partitions workers tables size chunks found parts is some long h =
-    let many : length parts ≡ length found = found-long found parts (length found) is refl in
-    let mapped = length-map parts (λ part. map vec_items part.items) in
-    let spans = (div_ceil_times (length chunks) size some).0 in
-    let spans_found : length chunks ≤ length found * size = subst (λ n. length chunks ≤ n * size) (sym long) spans in
+filled-parts {A} {Z} partitions workers tables size chunks parts some many h =
+    let part_logs : Vec (Vec ℕ Z) A → List (List ℕ) = λ part. map vec_items part.items in
     record {
-      all = subst (λ n. length chunks ≤ n * size) (sym (mapped ∙ many)) spans_found;
-      each = filled-each partitions workers tables size chunks found parts is many h;
+      all = subst (λ n. length chunks ≤ n * size) (sym (length-map parts part_logs ∙ many)) (div_ceil_times (length chunks) size some).0;
+      each = filled-each parts h;
     }
   where
-    filled-each : {A Z : Type 0} (partitions : ℕ) (workers : List Entries) (tables : Tables) (size : ℕ) (chunks : List Segment) (found : List (Result (Vec (Vec ℕ Z) A) Memory)) (parts : List (Vec (Vec ℕ Z) A)) → found ≡ map Ok parts
-        → length parts ≡ length found
-        → ((i : ℕ) (d : Result (Vec (Vec ℕ Z) A) Memory) → i < length found → IfOk (get_or found i d) (λ part. map vec_items part.items ≡ filled_by partitions workers tables (slice_chunk chunks size i)))
+    filled-each : (parts : List (Vec (Vec ℕ Z) A)) → ((i : ℕ) (d : Vec (Vec ℕ Z) A) → i < length parts → map vec_items (get_or parts i d).items ≡ filled_by partitions workers tables (slice_chunk chunks size i))
         → (i : ℕ) → i < length (map (λ (part : Vec (Vec ℕ Z) A). map vec_items part.items) parts) → get_or (map (λ (part : Vec (Vec ℕ Z) A). map vec_items part.items) parts) i [] ≡ filled_by partitions workers tables (slice_chunk chunks size i)
-    filled-each partitions workers tables size chunks found [] is many h i lt = absurd (omega (arith, lt))
-    filled-each partitions workers tables size chunks found (part ∷ parts) is many h i lt =
-        let mapped = length-map (part ∷ parts) (λ part. map vec_items part.items) in
-        let within : i < length (part ∷ parts) = omega (arith, lt, mapped) in
-        get_or-map (λ part. map vec_items part.items) (part ∷ parts) i part [] within
-        ∙ found-each (λ i part. map vec_items part.items ≡ filled_by partitions workers tables (slice_chunk chunks size i)) found (part ∷ parts) (length found) is refl h i part (omega (arith, within, many))
+    filled-each [] h i lt = absurd (omega (arith, lt))
+    filled-each (part ∷ parts) h i lt =
+        let within : i < length (part ∷ parts) = omega (arith, lt, length-map (part ∷ parts) (λ part. map vec_items part.items)) in
+        get_or-map (λ part. map vec_items part.items) (part ∷ parts) i part [] within ∙ h i part within
 
 map-twice : {X Y Z : Type 0} (f : X → Y) (g : Y → Z) (xs : List X) → map g (map f xs) ≡ map (λ x. g (f x)) xs
 map-twice f g [] = refl
 map-twice f g (x ∷ xs) = ap (λ ys. g (f x) ∷ ys) (map-twice f g xs)
 
-merged-one : {A B Z : Type 0} (partitions : ℕ) (parts : List (Vec (Vec ℕ Z) B)) (found : List (Result (Vec ℕ A) Memory)) (logs : List (Vec ℕ A)) → found ≡ map Ok logs → length found ≡ partitions
-    → ((p : ℕ) (d : Result (Vec ℕ A) Memory) → p < partitions → IfOk (get_or found p d) (λ log. log.items ≡ flattened (map (λ (part : Vec (Vec ℕ Z) B). get_or (map vec_items part.items) p []) parts)))
+merged-one : {A B Z : Type 0} (partitions : ℕ) (parts : List (Vec (Vec ℕ Z) B)) (logs : List (Vec ℕ A)) → length logs ≡ partitions
+    → ((p : ℕ) (d : Vec ℕ A) → p < partitions → (get_or logs p d).items ≡ flattened (map (λ (part : Vec (Vec ℕ Z) B). get_or (map vec_items part.items) p []) parts))
     → (p : ℕ) → p < partitions → get_or (map vec_items logs) p [] ≡ flattened (map (λ (part : List (List ℕ)). get_or part p []) (map (λ (part : Vec (Vec ℕ Z) B). map vec_items part.items) parts))
-merged-one partitions parts found [] is long h p lt = absurd (let e = found-long found [] partitions is long in omega (arith, e, lt))
-merged-one partitions parts found (log ∷ logs) is long h p lt =
-    let many = found-long found (log ∷ logs) partitions is long in
-    let own = found-each (λ i one. one.items ≡ flattened (map (λ part. get_or (map vec_items part.items) i []) parts)) found (log ∷ logs) partitions is long h p log lt in
-    get_or-map vec_items (log ∷ logs) p log [] (omega (arith, many, lt)) ∙ own
+merged-one partitions parts [] many h p lt = absurd (omega (arith, many, lt))
+merged-one partitions parts (log ∷ logs) many h p lt =
+    get_or-map vec_items (log ∷ logs) p log [] (omega (arith, many, lt)) ∙ h p log lt
     ∙ ap flattened (sym (map-twice (λ part. map vec_items part.items) (λ part. get_or part p []) parts))
 
-pub merged-parts : {A B Z : Type 0} (partitions : ℕ) (parts : List (Vec (Vec ℕ Z) B)) (found : List (Result (Vec ℕ A) Memory)) (logs : List (Vec ℕ A)) → found ≡ map Ok logs → length found ≡ partitions
-    → ((p : ℕ) (d : Result (Vec ℕ A) Memory) → p < partitions → IfOk (get_or found p d) (λ log. log.items ≡ flattened (map (λ (part : Vec (Vec ℕ Z) B). get_or (map vec_items part.items) p []) parts)))
+pub merged-parts : {A B Z : Type 0} (partitions : ℕ) (parts : List (Vec (Vec ℕ Z) B)) (logs : List (Vec ℕ A)) → length logs ≡ partitions
+    → ((p : ℕ) (d : Vec ℕ A) → p < partitions → (get_or logs p d).items ≡ flattened (map (λ (part : Vec (Vec ℕ Z) B). get_or (map vec_items part.items) p []) parts))
     → AreMerged partitions (map (λ (part : Vec (Vec ℕ Z) B). map vec_items part.items) parts) (map vec_items logs)
-merged-parts partitions parts found logs is long h = record {
-  as_many = length-map logs vec_items ∙ found-long found logs partitions is long;
-  each = merged-one partitions parts found logs is long h;
+merged-parts partitions parts logs many h = record {
+  as_many = length-map logs vec_items ∙ many;
+  each = merged-one partitions parts logs many h;
 }
-
--- copies of logs, each of which has the records of its log
-pub copied : {A B : Type 0} (logs : List (Vec ℕ B)) (found : List (Result (Vec ℕ A) Memory)) (copies : List (Vec ℕ A)) → found ≡ map Ok copies → length found ≡ length logs
-    → ((p : ℕ) (d : Result (Vec ℕ A) Memory) → p < length logs → IfOk (get_or found p d) (λ copy. copy.items ≡ get_or (map vec_items logs) p [])) → map vec_items copies ≡ map vec_items logs
-copied {A} {B} logs found copies is long h = same_lists (map vec_items copies) (map vec_items logs) (length-map copies vec_items ∙ many ∙ sym (length-map logs vec_items)) each
-  where
-    many : length copies ≡ length logs
-    many = found-long found copies (length logs) is long
-
-    each : (p : ℕ) (d : List ℕ) → p < length (map vec_items copies) → get_or (map vec_items copies) p d ≡ get_or (map vec_items logs) p d
-    each p d lt = each-of copies is many
-      where
-        each-of : (all : List (Vec ℕ A)) → found ≡ map Ok all → length all ≡ length logs → get_or (map vec_items copies) p d ≡ get_or (map vec_items logs) p d
-        each-of [] so short = absurd (omega (arith, lt, length-map copies vec_items, many, short))
-        each-of (first ∷ rest) so same =
-            let in_logs : p < length logs = omega (arith, lt, length-map copies vec_items, many) in
-            let own = found-each (λ i copy. copy.items ≡ get_or (map vec_items logs) i []) found copies (length logs) is long h p first in_logs in
-            get_or-map vec_items copies p first d (omega (arith, lt, length-map copies vec_items)) ∙ own ∙ get_or_default (map vec_items logs) p [] d (omega (arith, in_logs, length-map logs vec_items))
-
--- lists of logs that are the same by index
-pub same-by-index : (xs ys : List (List ℕ)) (n : ℕ) → length xs ≡ n → length ys ≡ n → All (λ i. get_or xs i [] ≡ get_or ys i []) (range_with_len 0 n) → xs ≡ ys
-same-by-index xs ys n long long_y h =
-    ext_get_or [] xs ys (long ∙ sym long_y) (λ i lt.
-    let within : i < n = omega (arith, lt, long) in
-    let at : get_or (range_with_len 0 n) i 0 ≡ i = get_or-range_with_len 0 n i 0 within ∙ omega arith in
-    subst (λ j. get_or xs j [] ≡ get_or ys j []) at (h i 0 (omega (arith, within, length-range_with_len 0 n))))

@@ -19,7 +19,6 @@ ghost use Rattle.partition_log.specs.Keys.{key_at, of_first, with_key};
 ghost use Rattle.partition_log.specs.Private.Appends.{log_answer, with_id, with_id_at};
 ghost use Rattle.partition_log.specs.Logs.{AreCounts, AreLogsOf, IsOfTopic, IsPlaceOf, IsValidLogs, PartitionLogs, answer_at, append_answer, log_at, place_in, with_record, with_record_at};
 
-mod copies;
 mod laws;
 mod places;
 mod sealed;
@@ -27,10 +26,10 @@ mod shares;
 mod tables;
 mod taken;
 
-use crate::copies::copy_logs;
 use key_index::KeyDictionary;
 use lane_words::{LONGEST_KEY, MOST_PARTITIONS, MOST_RECORDS, Memory, Refusal};
 pub use laws::each_record_is_in_one_log;
+use parallel::copy_lists;
 use partitioner::Partitions;
 use rayon::prelude::*;
 pub use sealed::SealedLogs;
@@ -281,7 +280,7 @@ impl Logs {
         ensures valid { IfOk result IsValidLogs }
     {
         let keys = self.keys.copy(rt)?;
-        let logs = copy_logs(rt, alloc, self.logs.as_slice())?;
+        let logs = copy_lists(rt, alloc, self.logs.as_slice())?;
         Ok(Logs {
             partitions: self.partitions,
             keys,

@@ -1,7 +1,7 @@
 //! Logs that are filled in parallel, each thread with the records of some chunks.
 
 ghost use Rattle.std.specs.Fork.{slice_chunk};
-ghost use Rattle.std.specs.Prelude.{◌≡◌, ◌<◌, ◌≤◌, ◌+◌, ◌*◌, ◌/◌, ◌%◌, [], ℕ, All, IfOk, List, OnOk, length, map, min, replicate, slice_index_or, vec_items, vec_len};
+ghost use Rattle.std.specs.Prelude.{◌≡◌, ◌<◌, ◌≤◌, ◌*◌, [], ℕ, All, IfOk, List, OnOk, length, map, replicate, slice_index_or, vec_items, vec_len};
 ghost use Rattle.key_counts.specs.Counts.{Entries};
 ghost use Rattle.key_counts.specs.Recorded.{all_records};
 ghost use Rattle.key_counts.specs.Segments.{IsSegment};
@@ -11,7 +11,7 @@ ghost use Rattle.partition_log.specs.Private.Shares.{AreFilled, AreMerged, AreTa
 use crate::taken::TakenRecords;
 use key_counts::{KeyCounts, Segment};
 use lane_words::Memory;
-use parallel::{LEAST_KEYS, collected, for_each_mut, no_results, processors};
+use parallel::{LEAST_KEYS, collect_each, processors};
 use std::alloc::Global;
 use std::thread::Threads;
 
@@ -180,38 +180,6 @@ fn logs_of_share(
 
 /// The logs of all shares, each filled in a thread of its own: a share has `size` chunks that follow
 /// one another, and the last what is left.
-fn fill_parallel<R: Threads + Sync>(
-    rt: &R,
-    alloc: Global,
-    partitions: usize,
-    taken: &TakenRecords<'_>,
-    tables: &Tables,
-    size: usize,
-) -> Result<Vec<Result<Vec<Vec<u32>>, Memory>>, Memory>
-    requires chunks { All (IsSegment (all_records taken.now.workers.now)) taken.now.chunks.now }
-    requires tables { AreTables partitions taken.now.workers.now tables.now }
-    requires nonempty { 1 ≤ size }
-    ensures len { IfOk result (λ found. vec_len found
-        ≡ length taken.now.chunks.now / size + min 1 (length taken.now.chunks.now % size)) }
-    ensures found { IfOk result (λ found. (i : ℕ) (d : _) → i < vec_len found
-        → IfOk (slice_index_or found.items i d) (λ part. map vec_items part.items
-        ≡ filled_by partitions taken.now.workers.now tables.now
-        (slice_chunk taken.now.chunks.now size i))) }
-{
-    let shares = taken.chunks.len().div_ceil(size);
-    let mut found = no_results(alloc, shares)?;
-    for_each_mut(
-        rt,
-        &mut found,
-        shares,
-        &|i, own: &mut Result<Vec<Vec<u32>>, Memory>| {
-            *own = logs_of_share(alloc, partitions, taken, tables, size, i);
-        },
-    );
-    Ok(found)
-}
-
-/// The logs of all shares, where memory was refused for none of them.
 fn fill_shares<R: Threads + Sync>(
     rt: &R,
     alloc: Global,
@@ -226,8 +194,14 @@ fn fill_shares<R: Threads + Sync>(
     ensures { IfOk result (λ parts. AreFilled partitions taken.now.workers.now tables.now size
         taken.now.chunks.now (map (λ part. map vec_items part.items) parts.items)) }
 {
-    let found = fill_parallel(rt, alloc, partitions, taken, tables, size)?;
-    collected(alloc, found)
+    let shares = taken.chunks.len().div_ceil(size);
+    collect_each(
+        rt,
+        alloc,
+        shares,
+        shares,
+        &|i| { logs_of_share(alloc, partitions, taken, tables, size, i) },
+    )
 }
 
 /// How many records parts have in one partition: it only says how much memory is taken.
@@ -255,31 +229,6 @@ fn merged_log(alloc: Global, parts: &[Vec<Vec<u32>>], p: usize) -> Result<Vec<u3
 }
 
 /// The logs of all partitions, merged in as many threads as there are parts.
-fn merge_parallel<R: Threads + Sync>(
-    rt: &R,
-    alloc: Global,
-    partitions: usize,
-    parts: &[Vec<Vec<u32>>],
-) -> Result<Vec<Result<Vec<u32>, Memory>>, Memory>
-    requires { All (λ part. length part.items ≡ partitions) parts.now }
-    ensures len { IfOk result (λ found. vec_len found ≡ partitions) }
-    ensures found { IfOk result (λ found. (p : ℕ) (d : _) → p < partitions
-        → IfOk (slice_index_or found.items p d) (λ log. log.items ≡ flattened
-        (map (λ part. slice_index_or (map vec_items part.items) p []) parts.now))) }
-{
-    let mut found = no_results(alloc, partitions)?;
-    for_each_mut(
-        rt,
-        &mut found,
-        parts.len(),
-        &|p, own: &mut Result<Vec<u32>, Memory>| {
-            *own = merged_log(alloc, parts, p);
-        },
-    );
-    Ok(found)
-}
-
-/// The logs of all partitions, where memory was refused for none of them.
 fn merged_logs<R: Threads + Sync>(
     rt: &R,
     alloc: Global,
@@ -290,8 +239,13 @@ fn merged_logs<R: Threads + Sync>(
     ensures { IfOk result (λ logs. AreMerged partitions
         (map (λ part. map vec_items part.items) parts.now) (map vec_items logs.items)) }
 {
-    let found = merge_parallel(rt, alloc, partitions, parts)?;
-    collected(alloc, found)
+    collect_each(
+        rt,
+        alloc,
+        partitions,
+        parts.len(),
+        &|p| { merged_log(alloc, parts, p) },
+    )
 }
 
 /// How many records chunks have: it only says how the work is shared.

@@ -18,6 +18,7 @@ use crate::taken::TakenRecords;
 use key_counts::{KeyCounts, Segment};
 use key_index::{Interned, ShardedMap, split_keys};
 use lane_words::{MOST_RECORDS, Memory};
+use parallel::{LEAST_KEYS, collect_each, processors};
 use std::alloc::Global;
 use std::thread::Threads;
 
@@ -39,13 +40,14 @@ pub fn entry_tables<R: Threads + Sync>(
         taken.now.workers.now r.1.numbers.items) }
 {
     let (interned, places) = interned_entries(rt, alloc, logs, taken)?;
-    let tables = both_tables(alloc, taken, &places, &interned.ids)?;
+    let tables = both_tables(rt, alloc, taken, &places, &interned.ids)?;
     Ok((interned.keys, tables))
 }
 
 /// Of the partitions and the numbers that all entries have in the order of the segments, what those
 /// of each worker have, by code.
-fn both_tables(
+fn both_tables<R: Threads + Sync>(
+    rt: &R,
     alloc: Global,
     taken: &TakenRecords<'_>,
     places: &[u32],
@@ -59,8 +61,8 @@ fn both_tables(
     ensures numbers { IfOk result (λ r. (f : Key → ℕ) → numbers.now ≡ map f (entry_keys taken.now)
         → AreTablesOf f taken.now.workers.now r.numbers.items) }
 {
-    let places = tables_of(alloc, taken, places)?;
-    let numbers = tables_of(alloc, taken, numbers)?;
+    let places = tables_of(rt, alloc, taken, places)?;
+    let numbers = tables_of(rt, alloc, taken, numbers)?;
     Ok(Tables { places, numbers })
 }
 
@@ -206,17 +208,29 @@ fn key_behind(key: &[u8]) -> &[u8]
 }
 
 /// Of what all entries have in the order of the segments, what those of each worker have, by code.
-fn tables_of(alloc: Global, taken: &TakenRecords<'_>, all: &[u32]) -> Result<Vec<Vec<u32>>, Memory>
+fn tables_of<R: Threads + Sync>(
+    rt: &R,
+    alloc: Global,
+    taken: &TakenRecords<'_>,
+    all: &[u32],
+) -> Result<Vec<Vec<u32>>, Memory>
     requires taken { AreTaken taken.now }
     requires len { length all.now ≡ length (entry_keys taken.now) }
     ensures { IfOk result (λ tables. (f : Key → ℕ) → all.now ≡ map f (entry_keys taken.now)
         → AreTablesOf f taken.now.workers.now tables.items) }
 {
-    let mut tables = Vec::with_capacity(alloc, taken.workers.len())?;
-    for w in 0..taken.workers.len() {
-        tables.push(table_for(alloc, taken, w, all)?)?;
-    }
-    Ok(tables)
+    let threads = if all.len() < LEAST_KEYS {
+        1
+    } else {
+        processors(rt)
+    };
+    collect_each(
+        rt,
+        alloc,
+        taken.workers.len(),
+        threads,
+        &|w| { table_for(alloc, taken, w, all) },
+    )
 }
 
 /// The same of one worker.

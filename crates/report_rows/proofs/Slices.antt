@@ -1,10 +1,9 @@
 -- The texts of slices, one after another.
-use Rattle.std.proofs.Common.{◌≡◌, ◌∙◌, ◌+◌, ◌*◌, ◌<◌, ◌≤◌, ℕ, zero, suc, List, [], ◌∷◌, ◌++◌, Result, Ok, Vec, Global, length, map, take, get_or, sym, ap, ap₂, arith, subst}
-use Rattle.std.specs.Prelude.{IfOk, flat_map, vec_items}
+use Rattle.std.proofs.Common.{◌≡◌, ◌∙◌, ◌+◌, ◌*◌, ◌<◌, ◌≤◌, ℕ, zero, suc, List, [], ◌∷◌, ◌++◌, Vec, Global, length, map, take, get_or, sym, ap, ap₂, arith, subst}
+use Rattle.std.specs.Prelude.{flat_map, vec_items}
 use Rattle.std.proofs.lemmas.Grind.{div_ceil_times}
 use Rattle.std.proofs.lemmas.List.{append-nil, get_or-map, length-map, take_all, take_more}
 use Rattle.std.proofs.lemmas.List.Concat.{flat_map-append}
-use Rattle.parallel.specs.Results.{AreResults}
 use Rattle.report_rows.specs.CountRows.{counted_row}
 use Rattle.report_rows.specs.ReplayRows.{committed_count_rows}
 use Rattle.report_rows.specs.Private.Slices.{IsTextOfSlice, committed_between, slice_start, slices_of}
@@ -49,24 +48,17 @@ first-slices keys counts texts d e each (suc n) le =
     ∙ sym (between-parted keys counts 0 start end (omega arith) (omega arith) (omega (arith, e)) e)
     ∙ ap (λ k. committed_between keys counts 0 (slice_start (length keys) k)) (sym up)
 
--- what threads found, where none ran out of memory
-pub found-slices : {E : Type 0} (keys : List (List ℕ)) (counts : List ℕ) (found : List (Result (Vec ℕ Global) E)) (texts : List (Vec ℕ Global)) → length keys ≡ length counts
-    → length found ≡ slices_of (length keys) → AreResults (IsTextOfSlice keys counts) (slices_of (length keys)) found → found ≡ map Ok texts
-    → flat_map vec_items texts ≡ committed_count_rows keys counts
-found-slices {E} keys counts found [] e len each is =
+-- the texts of all slices
+pub all-slices : (keys : List (List ℕ)) (counts : List ℕ) (texts : List (Vec ℕ Global)) → length keys ≡ length counts → length texts ≡ slices_of (length keys)
+    → ((i : ℕ) (d : Vec ℕ Global) → i < slices_of (length keys) → IsTextOfSlice keys counts i (get_or texts i d)) → flat_map vec_items texts ≡ committed_count_rows keys counts
+all-slices keys counts [] e many each =
     let whole = div_ceil_times (length keys) SLICE (omega arith) in
-    let none : slices_of (length keys) ≡ 0 = sym len ∙ ap length is in
-    let nothing : length keys ≡ 0 = omega (arith, whole.0, ap (λ k. k * SLICE) none) in
+    let nothing : length keys ≡ 0 = omega (arith, whole.0, ap (λ k. k * SLICE) (sym many)) in
     sym (between-none keys counts 0) ∙ between-all keys counts 0 e (omega (arith, nothing, e))
-found-slices {E} keys counts found (text ∷ texts) e len each is =
+all-slices keys counts (text ∷ texts) e many each =
     let all = text ∷ texts in
-    let many : length all ≡ slices_of (length keys) = sym (ap length is ∙ length-map all Ok) ∙ len in
     let whole = div_ceil_times (length keys) SLICE (omega arith) in
     let end : length counts ≤ slice_start (length keys) (length all) = omega (arith, whole.0, ap (λ k. k * SLICE) many, e) in
     ap (flat_map vec_items) (sym (take_all (length all) all (omega arith)))
-    ∙ first-slices keys counts all text e
-    (λ i lt.
-    let at : get_or found i (Ok text) ≡ Ok (get_or all i text) = ap (λ fs. get_or fs i (Ok text)) is ∙ get_or-map Ok all i text (Ok text) lt in
-    subst (λ r. IfOk r (IsTextOfSlice keys counts i)) at (each i (Ok text) (omega (arith, lt, many))))
-    (length all) (omega arith)
+    ∙ first-slices keys counts all text e (λ i lt. each i text (omega (arith, lt, many))) (length all) (omega arith)
     ∙ between-all keys counts (slice_start (length keys) (length all)) e end

@@ -1,16 +1,15 @@
 //! The rows of committed counts, those of many keys in parallel.
 
-ghost use Rattle.std.specs.Prelude.{◌≡◌, ◌<◌, ◌≤◌, ◌+◌, ◌*◌, ◌^◌, IfOk, OnOk, flat_map, length, vec_items, vec_len};
-ghost use Rattle.report_rows.specs.Private.Slices.{IsTextOfSlice, committed_between, slice_start, slices_of};
+ghost use Rattle.std.specs.Prelude.{◌≡◌, ◌<◌, ◌≤◌, ◌+◌, ◌*◌, ◌^◌, IfOk, OnOk, flat_map, length, vec_items};
+ghost use Rattle.report_rows.specs.Private.Slices.{IsTextOfSlice, committed_between, slice_start};
 ghost use Rattle.report_rows.specs.ReplayRows.{committed_count_rows};
 ghost use Rattle.report_rows.specs.Rows.{AddsRows};
-ghost use Rattle.parallel.specs.Results.{AreResults};
 
 use crate::{rows, top_rows};
 use csv::Writer;
 use key_index::KeyDictionary;
 use lane_words::Memory;
-use parallel::{LEAST_KEYS, collected, for_each_mut, no_results, processors};
+use parallel::{LEAST_KEYS, collect_each, processors};
 use std::alloc::Global;
 use std::thread::Threads;
 
@@ -63,33 +62,8 @@ fn text_of_slice(
     rows::text_of(writer)
 }
 
-/// Makes the rows of each slice, in as many threads as there are processors.
-fn make_slices<R: Threads + Sync>(
-    rt: &R,
-    alloc: Global,
-    keys: &KeyDictionary,
-    counts: &[u64],
-) -> Result<Vec<Result<Vec<u8>, Memory>>, Memory>
-    requires { length keys.now ≡ length counts.now }
-    ensures len { IfOk result (λ found. vec_len found ≡ slices_of (length keys.now)) }
-    ensures found { IfOk result (λ found. AreResults (IsTextOfSlice keys.now counts.now)
-        (slices_of (length keys.now)) found.items) }
-{
-    let slices = (keys.count() as usize).div_ceil(SLICE);
-    let mut found = no_results(alloc, slices)?;
-    for_each_mut(
-        rt,
-        &mut found,
-        processors(rt).min(slices),
-        &|slice, own: &mut Result<Vec<u8>, Memory>| {
-            *own = text_of_slice(alloc, keys, counts, slice);
-        },
-    );
-    Ok(found)
-}
-
 /// The rows of the keys with a count above 0, in the order of the keys, in texts to be written one
-/// after another.
+/// after another: those of each slice, made in as many threads as there are processors.
 pub fn committed_texts<R: Threads + Sync>(
     rt: &R,
     alloc: Global,
@@ -100,6 +74,12 @@ pub fn committed_texts<R: Threads + Sync>(
     ensures { IfOk result (λ texts. flat_map vec_items texts.items
         ≡ committed_count_rows keys.now counts.now) }
 {
-    let found = make_slices(rt, alloc, keys, counts)?;
-    collected(alloc, found)
+    let slices = (keys.count() as usize).div_ceil(SLICE);
+    collect_each(
+        rt,
+        alloc,
+        slices,
+        processors(rt),
+        &|slice| { text_of_slice(alloc, keys, counts, slice) },
+    )
 }

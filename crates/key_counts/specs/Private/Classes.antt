@@ -10,6 +10,7 @@ use Rattle.key_counts.specs.declared.classes.Class.{Class}
 use Rattle.key_counts.specs.declared.classes.Members.{Members}
 use Rattle.key_counts.specs.declared.classes.Origin.{Origin}
 use Rattle.key_counts.specs.declared.merging.Segment.{Segment}
+use Rattle.key_counts.specs.declared.twins.TheConstants.{CLASSES}
 use Rattle.key_counts.specs.declared.walk.Position.{Position}
 
 -- these are segments of workers whose entries have counts and classes
@@ -81,3 +82,9 @@ pub record IsClass (class : Key → ℕ) (skip : ℕ) (workers : List Entries) (
       (counts_of workers segments) merged.totals
   pub starts : AreStarts (is_of class c) skip workers segments (length segments + 1)
       merged.starts.items
+
+-- the entries of each class are merged
+abbrev pub AreClassesMade : (Key → ℕ) → ℕ → List Entries → List Segment → List Class → Type 0
+AreClassesMade class skip workers segments classes =
+    (i : ℕ) (d : Class) → i < CLASSES
+    → IsClass class skip workers segments i (slice_index_or classes i d)

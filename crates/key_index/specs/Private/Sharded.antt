@@ -1,7 +1,6 @@
 -- Keys interned shard by shard, and their key numbers.
-use Rattle.std.specs.Prelude.{◌≡◌, ◌<◌, ◌≤◌, ◌+◌, ◌*◌, ◌/◌, ◌==◌, ◌%◌, ◌^◌, ℕ, IfOk, List, Result, [], ◌∷◌, ◌++◌, All, Bool, Vec, filter, fold, length, map, min, if◌then◌else◌, slice_index_or, slice_set, take, vec_items, vec_len}
+use Rattle.std.specs.Prelude.{◌≡◌, ◌<◌, ◌≤◌, ◌+◌, ◌*◌, ◌/◌, ◌==◌, ◌%◌, ◌^◌, ℕ, List, [], ◌∷◌, ◌++◌, All, Bool, Vec, filter, fold, length, map, min, if◌then◌else◌, slice_index_or, slice_set, take, vec_items, vec_len}
 use Rattle.lane_words.specs.declared.limits.TheConstants.{MOST_RECORDS}
-use Rattle.parallel.specs.Results.{AreResults}
 use Rattle.std.specs.Borrow.{Bor}
 use Rattle.std.specs.Global.{Global}
 use Rattle.key_index.specs.Keys.{Key, distinct, id_of, key_at, lent, lent_lists, with_key}
@@ -9,7 +8,7 @@ use Rattle.key_index.specs.Private.KeyHash.{hash_of}
 use Rattle.key_index.specs.declared.key_hash.KeyHash.{KeyHash}
 use Rattle.key_index.specs.declared.scattering.TheConstants.{SLICES}
 use Rattle.key_index.specs.declared.scattering.Scattered.{Scattered}
-use Rattle.key_index.specs.declared.shards.TheConstants.{SHARDS, SHARDS_PER_GROUP}
+use Rattle.key_index.specs.declared.shards.TheConstants.{SHARDS}
 use Rattle.key_index.specs.declared.shards.KeyLocation.{KeyLocation}
 use Rattle.key_index.specs.declared.interning.InternedShard.{InternedShard}
 use Rattle.key_index.specs.declared.interning.ShardedRecords.{ShardedRecords}
@@ -47,13 +46,6 @@ pub record AreScattered (shard : Key → ℕ) (lists : List (Bor (List (Bor Key)
   pub as_many : length scattered ≡ length lists
   pub are : (i : ℕ) (d : Scattered) (e : Bor (List (Bor Key))) → i < length lists
       → IsScattered shard (lent (slice_index_or lists i e).now) (slice_index_or scattered i d)
-
--- the same of results, each of which may be an error
-abbrev pub AreScatteredResults : {E : Type 0} → (Key → ℕ) → List (Bor (List (Bor Key)))
-    → List (Result Scattered E) → Type 0
-AreScatteredResults {E} shard lists found =
-    (i : ℕ) (d : Result Scattered E) (e : Bor (List (Bor Key))) → i < length lists
-    → IfOk (slice_index_or found i d) (IsScattered shard (lent (slice_index_or lists i e).now))
 
 -- the keys of a shard after more records
 abbrev pub with_keys : List Key → List Key → List Key
@@ -95,23 +87,11 @@ IsInternedShard shard keys s found =
     × (found.local_ids.items
     ≡ map (id_of (distinct (of_shard shard s keys))) (of_shard shard s keys))
 
--- the shards from one on, interned; each result may be an error
-abbrev pub AreInternedFrom : {E : Type 0} → (Key → ℕ) → List Key → ℕ → ℕ
-    → List (Result InternedShard E) → Type 0
-AreInternedFrom shard keys from count found =
-    AreResults (λ k. IsInternedShard shard keys (from + k)) count found
-
--- the shards of group g, interned; each result may be an error
-abbrev pub AreInternedInGroup : {E : Type 0} → (Key → ℕ) → List Key → ℕ
-    → List (Result InternedShard E) → Type 0
-AreInternedInGroup shard keys g found =
-    AreInternedFrom shard keys (g * SHARDS_PER_GROUP) SHARDS_PER_GROUP found
-
--- a result for each shard of group g, interned
-abbrev pub IsInternedGroup : {E : Type 0} → (Key → ℕ) → List Key → ℕ
-    → Vec (Result InternedShard E) Global → Type 0
-IsInternedGroup shard keys g found =
-    (length found.items ≡ SHARDS_PER_GROUP) × AreInternedInGroup shard keys g found.items
+-- so many shards, interned
+abbrev pub AreInterned : (Key → ℕ) → List Key → ℕ → List InternedShard → Type 0
+AreInterned shard keys count shards =
+    (s : ℕ) (d : InternedShard) → s < count
+    → IsInternedShard shard keys s (slice_index_or shards s d)
 
 -- the keys of each of count shards
 pub record AreTables (shard : Key → ℕ) (count : ℕ) (keys : List Key) (tables : List (List Key))

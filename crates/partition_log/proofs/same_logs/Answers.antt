@@ -3,7 +3,7 @@ use Rattle.std.specs.Prelude.{All}
 use Rattle.std.specs.List.{range_with_len}
 use Rattle.std.proofs.lemmas.List.{length-map}
 use Rattle.rayon.proofs.ToStd.{all-iff, nat_range-All}
-use Rattle.partition_log.proofs.Sharing.{same-by-index}
+use Rattle.parallel.proofs.Copies.{same-by-index}
 use Rattle.partition_log.proofs.same_logs.Goals as goal
 
 pub all-requires-clause-items : goal.all-requires-clause-items
@@ -24,6 +24,6 @@ returns-then-logs-others g c =
     let whole : n - 0 ≡ n = omega arith in
     let indices : chain.0 ≡ range_with_len 0 n = chain.1 ∙ ap₂ (λ a b. range_with_len a (b - a)) ends.0 ends.1 ∙ ap (range_with_len 0) whole in
     let told = all-iff (λ i. get_or mine i [] ≡ get_or theirs i []) chain.0 c.all.result chain.2 in (
-      λ yes. same-by-index mine theirs n long long_theirs (subst (λ is. All (λ i. get_or mine i [] ≡ get_or theirs i []) is) indices (told.0 yes)),
+      λ yes. same-by-index [] mine theirs n long long_theirs (subst (λ is. All (λ i. get_or mine i [] ≡ get_or theirs i []) is) indices (told.0 yes)),
       λ same. told.1 (λ k d lt. ap (λ ls. get_or ls (get_or chain.0 k d) []) same),
     )

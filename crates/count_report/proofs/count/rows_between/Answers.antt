@@ -1,13 +1,13 @@
-use Rattle.std.proofs.Common.{◌≡◌, ◌∙◌, ◌+◌, Ok, length, map, rules, vec_len}
-use Rattle.std.proofs.lemmas.Result.{IfOk-weaker}
+use Rattle.std.proofs.Common.{◌+◌, rules}
+use Rattle.parallel.proofs.Placed.{both-give}
 use Rattle.count_report.specs.Private.Counted.{AreTextsOfParts}
-use Rattle.count_report.proofs.PartTexts.{found-texts}
+use Rattle.count_report.proofs.PartTexts.{all-texts}
 use Rattle.count_report.proofs.count.rows_between.Goals as goal
 
 pub returns : goal.returns
 returns g c =
     let m = c.args.merging.now in
-    let found = c.in_ok-found.found.items in
-    let counted : length found ≡ vec_len c.in_ok-found.found = search rules in
-    IfOk-weaker c.collected.result (λ texts. found ≡ map Ok texts.items) (AreTextsOfParts m c.args.from (c.args.from + c.args.count))
-    (λ texts is. found-texts m c.args.from c.args.count found texts.items c.requires.divided c.requires.within (counted ∙ c.in_ok-found.ensures.len) c.in_ok-found.ensures.found is) c.collected.ensures
+    let from = c.args.from in
+    let count = c.args.count in
+    both-give c.collect_each.result _ _ (AreTextsOfParts m from (from + count))
+    (λ texts many each. all-texts m from count texts.items c.requires.divided c.requires.within many (λ i d lt. let own = (each i d lt).1.met in search rules)) c.collect_each.ensures.len c.collect_each.ensures.each

@@ -1,10 +1,13 @@
-use Rattle.std.proofs.Common.{◌≡◌, arith, length}
+use Rattle.std.proofs.Common.{◌≡◌, map, rules, ℕ}
+use Rattle.parallel.proofs.Placed.{both-give}
+use Rattle.key_index.specs.Keys.{Key}
+use Rattle.partition_log.specs.Private.Tables.{AreTablesOf, entry_keys}
 use Rattle.partition_log.proofs.EntryTables.{tables-of}
 use Rattle.partition_log.proofs.tables.tables_of.Goals as goal
 
 pub returns : goal.returns
-returns c = λ f is.
+returns g c =
     let taken = c.args.taken.now in
-    let inv = c.loop-w.invariant in
-    let all : c.loop-w.w ≡ length taken.workers.now = omega (arith, c.loop-w.auto.w-end, c.loop-w-test.false) in
-    tables-of f taken c.args.all.now c.loop-w.tables.items c.requires.taken (omega (arith, inv.many, all)) (λ w lt. inv.each w (omega (arith, all, lt))) is
+    let all = c.args.all.now in
+    both-give c.collect_each.result _ _ (λ tables. (f : Key → ℕ) → all ≡ map f (entry_keys taken) → AreTablesOf f taken.workers.now tables.items)
+    (λ tables many each f is. tables-of f taken all tables.items c.requires.taken many (λ w d lt. let own = (each w d lt).1.met in search rules) is) c.collect_each.ensures.len c.collect_each.ensures.each

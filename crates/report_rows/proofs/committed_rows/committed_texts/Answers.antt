@@ -1,13 +1,15 @@
-use Rattle.std.proofs.Common.{◌≡◌, ◌∙◌, Ok, length, map, rules, vec_items, vec_len}
+use Rattle.std.proofs.Common.{◌≡◌, ◌∙◌, ap, arith, rules, vec_items}
 use Rattle.std.specs.Prelude.{flat_map}
-use Rattle.std.proofs.lemmas.Result.{IfOk-weaker}
+use Rattle.parallel.proofs.Placed.{both-give}
+use Rattle.report_rows.specs.Private.Slices.{slices_of}
 use Rattle.report_rows.specs.ReplayRows.{committed_count_rows}
-use Rattle.report_rows.proofs.Slices.{found-slices}
+use Rattle.report_rows.proofs.Slices.{all-slices}
 use Rattle.report_rows.proofs.committed_rows.committed_texts.Goals as goal
 
 pub returns : goal.returns
 returns g c =
-    let found = c.in_ok-found.found.items in
-    let counted : length found ≡ vec_len c.in_ok-found.found = search rules in
-    IfOk-weaker c.collected.result (λ texts. found ≡ map Ok texts.items) (λ texts. flat_map vec_items texts.items ≡ committed_count_rows c.args.keys.now c.args.counts.now)
-    (λ texts is. found-slices c.args.keys.now c.args.counts.now found texts.items c.requires (counted ∙ c.in_ok-found.ensures.len) c.in_ok-found.ensures.found is) c.collected.ensures
+    let keys = c.args.keys.now in
+    let counts = c.args.counts.now in
+    let slices = c.div_ceil-slices.ensures ∙ ap slices_of c.count.ensures in
+    both-give c.collect_each.result _ _ (λ texts. flat_map vec_items texts.items ≡ committed_count_rows keys counts)
+    (λ texts many each. all-slices keys counts texts.items c.requires (many ∙ slices) (λ i d lt. let own = (each i d (omega (arith, lt, slices))).1.met in search rules)) c.collect_each.ensures.len c.collect_each.ensures.each

@@ -1,28 +1,17 @@
-use Rattle.std.proofs.Common.{◌≡◌, ◌∙◌, ◌+◌, ◌<◌, ℕ, List, Ok, Result, ap, arith, drop, get_or, length, map, subst, sym}
-use Rattle.std.specs.Prelude.{All, IfOk}
-use Rattle.std.proofs.lemmas.List.{get_or-map, length-map}
-use Rattle.parallel.specs.Results.{AreResults}
+use Rattle.std.proofs.Common.{◌≡◌, ◌∙◌, ◌+◌, List, ap, drop, get_or, length, subst, sym}
+use Rattle.std.specs.Prelude.{All}
+use Rattle.std.proofs.lemmas.List.{length-map}
 use Rattle.key_counts.specs.Counts.{Entries}
 use Rattle.key_counts.specs.Partition.{HasCounts}
-use Rattle.key_counts.specs.Private.Classes.{AreStarts, IsClass}
+use Rattle.key_counts.specs.Private.Classes.{AreClassesMade, AreStarts}
 use Rattle.key_counts.specs.Private.Walks.{AreClasses, is_of}
 use Rattle.key_counts.specs.Private.Prepared.{AreFirstOf}
 use Rattle.key_counts.specs.Private.Twins.{HasClasses, IsOnce, class_in}
 use Rattle.key_counts.specs.Segments.{IsSegment, counts_of, entries_of, keys_behind, keys_of}
 use Rattle.key_counts.specs.declared.merging.Segment.{Segment}
-use Rattle.key_counts.specs.declared.twins.TheConstants.{CLASSES}
 use Rattle.key_counts.proofs.First.{first-all}
 use Rattle.key_counts.proofs.Parts.{counts-len}
 use Rattle.key_counts.proofs.merging.Prepared.new.Goals as goal
-
--- the values of results
-values : {X E : Type 0} (P : ℕ → X → Type 0) (n : ℕ) (results : List (Result X E)) (xs : List X) → AreResults P n results → results ≡ map Ok xs → length results ≡ n
-    → (length xs ≡ n) × ((i : ℕ) (d : X) → i < n → P i (get_or xs i d))
-values {X} {E} P n results xs so is count =
-    let len : length xs ≡ n = sym (length-map xs Ok) ∙ ap length (sym is) ∙ count in (
-      len,
-      λ i d lt. subst (λ r. IfOk r (P i)) (ap (λ rs. get_or rs i (Ok d)) is ∙ get_or-map Ok xs i d (Ok d) (omega (arith, lt, len))) (so i (Ok d) lt),
-    )
 
 pub returns-clause-prepared : goal.returns-clause-prepared
 returns-clause-prepared g c =
@@ -38,10 +27,9 @@ returns-clause-prepared g c =
     subst (λ (ss : List Segment). IsOnce class (keys_behind skip workers ss)) c.as_slice-3.ensures.value
     (subst (λ (ws : List Entries). IsOnce class (keys_behind skip ws c.as_slice-3.result.now)) c.as_slice-2.ensures.value c.in_ok-twins.ensures.once) in
     let own : HasClasses twins skip workers = subst (HasClasses twins skip) c.as_slice-2.ensures.value c.in_ok-twins.ensures.classes in
-    let found : AreResults (IsClass class skip workers segments) CLASSES c.in_ok-found.found.items =
-    subst (λ (ss : List Segment). AreResults (IsClass class skip workers ss) CLASSES c.in_ok-found.found.items) c.as_slice-5.ensures.value
-    (subst (λ (ws : List Entries). AreResults (IsClass class skip ws c.as_slice-5.result.now) CLASSES c.in_ok-found.found.items) c.as_slice-4.ensures.value c.in_ok-found.ensures.found) in
-    let are = values (IsClass class skip workers segments) CLASSES c.in_ok-found.found.items classes found c.in_ok-classes.ensures c.in_ok-found.ensures.len in
+    let are : AreClassesMade class skip workers segments classes =
+    subst (λ (ss : List Segment). AreClassesMade class skip workers ss classes) c.as_slice-5.ensures.value
+    (subst (λ (ws : List Entries). AreClassesMade class skip ws c.as_slice-5.result.now classes) c.as_slice-4.ensures.value c.in_ok-classes.ensures.classes) in
     let len : length (counts_of workers segments) ≡ length (keys_behind skip workers segments) = counts-len workers segments counted c.requires.segments ∙ sym (length-map (keys_of workers segments) (drop skip)) in
     record {
       counted = subst (All HasCounts) (sym whole) counted;
@@ -52,10 +40,10 @@ returns-clause-prepared g c =
           (record {
             once = once;
             len = len;
-            count = are.0;
-            each = λ i d lt. (are.1 i d lt).totals;
+            count = c.in_ok-classes.ensures.len;
+            each = λ i d lt. (are i d lt).totals;
           });
-      starts = λ i d lt. subst (λ (ws : List Entries). AreStarts (is_of class i) skip ws segments (length segments + 1) (get_or classes i d).starts.items) (sym whole) (are.1 i d lt).starts;
+      starts = λ i d lt. subst (λ (ws : List Entries). AreStarts (is_of class i) skip ws segments (length segments + 1) (get_or classes i d).starts.items) (sym whole) (are i d lt).starts;
     }
 
 pub returns-clause-left : goal.returns-clause-left

@@ -1,9 +1,9 @@
-use Rattle.std.proofs.Common.{◌≡◌, ◌∙◌, ◌<◌, ◌-◌, ap, ap₂, arith, get_or, length, subst, sym}
+use Rattle.std.proofs.Common.{[], ◌≡◌, ◌∙◌, ◌<◌, ◌-◌, ap, ap₂, arith, get_or, length, subst, sym}
 use Rattle.std.specs.Prelude.{All}
 use Rattle.std.specs.List.{range_with_len}
 use Rattle.rayon.proofs.ToStd.{all-iff, nat_range-All}
 use Rattle.key_index.specs.Keys.{key_at}
-use Rattle.key_index.proofs.Copied.{same-by-number}
+use Rattle.parallel.proofs.Copies.{same-by-index}
 use Rattle.key_index.proofs.keys.KeyDictionary.same.Goals as goal
 
 pub all-requires-clause-items : goal.all-requires-clause-items
@@ -23,6 +23,6 @@ returns-then-count g c =
     let whole : n - 0 ≡ n = omega arith in
     let numbers : chain.0 ≡ range_with_len 0 n = chain.1 ∙ ap₂ (λ a b. range_with_len a (b - a)) ends.0 ends.1 ∙ ap (range_with_len 0) whole in
     let told = all-iff (λ i. key_at mine i ≡ key_at theirs i) chain.0 c.all.result chain.2 in (
-      λ yes. same-by-number mine theirs n (sym c.count-then-count.ensures) long_theirs (subst (λ is. All (λ i. key_at mine i ≡ key_at theirs i) is) numbers (told.0 yes)),
+      λ yes. same-by-index [] mine theirs n (sym c.count-then-count.ensures) long_theirs (subst (λ is. All (λ i. key_at mine i ≡ key_at theirs i) is) numbers (told.0 yes)),
       λ same. told.1 (λ k d lt. ap (λ ks. key_at ks (get_or chain.0 k d)) same),
     )

@@ -10,7 +10,7 @@ invariant_of-result g c =
     let without_repeats = subst IsWithoutRepeats (sym c.self.view_is) c.requires in
     let tables : c.in_ok-tables.tables.items ≡ own.tables.items =
     c.in_ok-tables.ensures ∙ ap (map distinct) c.as_slice.ensures.value ∙ tables-distinct (shard_of own.hasher) (map (key_at_location own.tables.items) own.order.items) own.tables.items without_repeats c.self.invariant.keys_of in
-    let ids : map vec_items c.in_ok-copied_ids.field-0.items ≡ map vec_items own.ids.items = c.in_ok-copied_ids.ensures ∙ ap (map vec_items) c.as_slice-2.ensures.value in
+    let ids : map vec_items c.in_ok-copy_lists.field-0.items ≡ map vec_items own.ids.items = c.in_ok-copy_lists.ensures ∙ ap (map vec_items) c.as_slice-2.ensures.value in
     let order : c.in_ok-from_slice.field-0.items ≡ own.order.items = c.in_ok-from_slice.ensures.items ∙ c.as_slice-3.ensures.value in
     rw (tables, ids, order) c.self.invariant
 

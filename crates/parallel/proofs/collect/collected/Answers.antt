@@ -2,7 +2,7 @@ use Rattle.std.proofs.Common.{◌≡◌, ◌+◌, ◌∙◌, ◌∷◌, ◌++◌
 use Rattle.std.specs.Vec.Iter.{into_iter_items}
 use Rattle.std.proofs.lemmas.List.{map-append, take_all, take_more}
 use Rattle.parallel.proofs.Iterated.{drop_last, drop_next}
-use Rattle.parallel.proofs.collected.Goals as goal
+use Rattle.parallel.proofs.collect.collected.Goals as goal
 
 pub loop-one-preserved : goal.loop-one-preserved
 loop-one-preserved g c =
